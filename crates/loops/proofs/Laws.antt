@@ -1,0 +1,11 @@
+-- The laws, one file a subject.
+pub mod Truth
+pub mod Order
+pub mod Fold
+pub mod Count
+pub mod Tests
+pub mod Best
+pub mod First
+pub mod Lists
+pub mod Stores
+pub mod Copies
