@@ -1,0 +1,47 @@
+-- Last formed as it stands beside a last primary: the three cases of `formedOk`, both ways, and that its number is at most the last primary's.
+use mathlib.Core.Path.{_≡_, ap, _∙_}
+use mathlib.Core.Bool.{true, false, not, _&&_}
+use mathlib.Core.Logic.{⊎-elim}
+use Prim.Native.Nat.{ℕ, _<_, _≤_}
+use native.Mathlib.Nat.{lt-irrefl}
+use native.Mathlib.Omega.{arith}
+use lib.Dec.{eqb, ltb}
+use borrow.Author.Tests.{eq-eqb, eqb-true, eqb-false, ltb-true, lt-ltb}
+use Rattle.loops.proofs.Laws.Truth.{and-left, and-right, and-both, or-cases, or-left, or-right, not-true, passes-or-fails}
+use Rattle.group.specs.Heads.{has}
+use Rattle.group.specs.Words.{num, rank, formedOk}
+use Rattle.group.proofs.Laws.Words.{rank-le-num}
+
+-- last primary; or none; or a session with own head, q and a lower number
+pub data Formed (own p q w : ℕ) : Type 0 where
+  member : has p q ≡ true → w ≡ p → Formed own p q w
+  none : has p q ≡ false → w ≡ 0 → Formed own p q w
+  lower : has p q ≡ false → has w own ≡ true → has w q ≡ true → rank w < rank p → Formed own p q w
+
+pub formed-cases : (own p q w : ℕ) → formedOk own p q w ≡ true → Formed own p q w
+unfolding formedOk
+formed-cases own p q w e =
+    ⊎-elim
+    (λ a. member (and-left (has p q) (eqb w p) a) (eqb-true w p (and-right (has p q) (eqb w p) a)))
+    (λ b.
+    let out : has p q ≡ false = not-true (has p q) (and-left (not (has p q)) _ b) in
+    ⊎-elim
+    (λ z. none out (eqb-true w 0 z))
+    (λ l.
+    let both = and-left (has w own && has w q) (ltb (rank w) (rank p)) l in
+    lower out (and-left (has w own) (has w q) both) (and-right (has w own) (has w q) both)
+    (ltb-true (rank w) (rank p) (and-right (has w own && has w q) (ltb (rank w) (rank p)) l)))
+    (or-cases (eqb w 0) _ (and-right (not (has p q)) _ b)))
+    (or-cases (has p q && eqb w p) _ e)
+
+pub formed-of : (own p q w : ℕ) → Formed own p q w → formedOk own p q w ≡ true
+unfolding formedOk
+formed-of own p q w (member i e) = or-left (has p q && eqb w p) _ (and-both _ _ i (eq-eqb w p e))
+formed-of own p q w (none o e) = or-right (has p q && eqb w p) _ (and-both _ _ (ap not o) (or-left (eqb w 0) _ (eq-eqb w 0 e)))
+formed-of own p q w (lower o a b l) =
+    or-right (has p q && eqb w p) _
+    (and-both _ _ (ap not o) (or-right (eqb w 0) _ (and-both _ _ (and-both _ _ a b) (lt-ltb (rank w) (rank p) l))))
+
+-- a lower rank has a number that is no higher
+pub lower-number : (w p : ℕ) → rank w < rank p → num w ≤ num p
+lower-number w p l = rank-le-num w p (omega arith)
