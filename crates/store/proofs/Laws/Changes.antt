@@ -1,0 +1,57 @@
+-- Laws of changes that do not ask what recovery does with them. By induction on the changes.
+use mathlib.Core.Path.{_≡_, refl, sym, ap, _∙_}
+use mathlib.Core.List.{List, [], _∷_, _++_, append-assoc}
+use Prim.Native.Nat.{ℕ, zero, suc, _-_}
+use native.Mathlib.Omega.{arith}
+use lib.ListN.{length, length-append}
+use Rattle.store.specs.Desk.{Store, apply}
+use Rattle.store.specs.Program.{Step, script}
+use Rattle.store.specs.Changes.{Change, allStores, begun, changesOf, made}
+
+pub stores-append : (cs ds : List Change) → allStores (cs ++ ds) ≡ allStores cs ++ allStores ds
+unfolding allStores
+stores-append [] ds = refl
+stores-append (c ∷ cs) ds = ap (λ (s : List Store). c ++ s) (stores-append cs ds) ∙ sym (append-assoc c (allStores cs) (allStores ds))
+
+-- before the first store nothing is done
+pub begun-none : (cs : List Change) → begun 0 cs ≡ []
+unfolding begun
+begun-none [] = refl
+begun-none (c ∷ cs) = refl
+
+-- later changes begin when the stores of the earlier ones are made
+pub begun-append : (k : ℕ) (cs ds : List Change) → begun k (cs ++ ds) ≡ begun k cs ++ begun (k - length (allStores cs)) ds
+unfolding begun allStores
+begun-append k [] ds = ap (λ (j : ℕ). begun j ds) (omega arith)
+begun-append zero (c ∷ cs) ds = sym (ap (λ (j : ℕ). begun j ds) (none (length (c ++ allStores cs))) ∙ begun-none ds)
+  where
+    none : (n : ℕ) → 0 - n ≡ 0
+    none n = omega arith
+begun-append (suc k) (c ∷ cs) ds =
+    ap (λ (s : List Store). c ++ s) (begun-append (suc k - length c) cs ds)
+    ∙ sym (append-assoc c (begun (suc k - length c) cs) (begun (suc k - length c - length (allStores cs)) ds))
+    ∙ ap (λ (j : ℕ). (c ++ begun (suc k - length c) cs) ++ begun j ds) (omega (arith, length-append c (allStores cs)))
+
+-- a program's changes have its stores
+pub changes-script : (fs : List Step) (r : List ℕ) → allStores (changesOf fs r) ≡ script fs r
+unfolding changesOf allStores script
+changes-script [] r = refl
+changes-script (f ∷ fs) r = ap (λ (s : List Store). f r ++ s) (changes-script fs (apply (f r) r))
+
+-- the changes that store something are as good as all: they have the same stores, and the same are done after k of them
+pub made-stores : (cs : List Change) → allStores (made cs) ≡ allStores cs
+unfolding made allStores
+made-stores [] = refl
+made-stores ([] ∷ cs) = made-stores cs
+made-stores ((s ∷ c) ∷ cs) = ap (λ (l : List Store). (s ∷ c) ++ l) (made-stores cs)
+
+pub made-begun : (k : ℕ) (cs : List Change) → begun k (made cs) ≡ begun k cs
+unfolding made begun
+made-begun k [] = refl
+made-begun zero ([] ∷ cs) = begun-none (made cs)
+made-begun (suc k) ([] ∷ cs) = made-begun (suc k) cs ∙ ap (λ (j : ℕ). begun j cs) (all k)
+  where
+    all : (n : ℕ) → suc n ≡ suc n - 0
+    all n = omega arith
+made-begun zero ((s ∷ c) ∷ cs) = refl
+made-begun (suc k) ((s ∷ c) ∷ cs) = ap (λ (l : List Store). (s ∷ c) ++ l) (made-begun (suc k - length (s ∷ c)) cs)

@@ -1,0 +1,54 @@
+// Stores under a budget. A pen may make so many stores more; asked for one too many, it is cut and stores nothing from then on.
+ghost use mathlib.Core.Path.{_≡_};
+ghost use Prim.Native.Nat.{_<_};
+ghost use lib.ListN.{length};
+ghost use Rattle.store.specs.Desk.{desk, store, putTo, run, storeIf, diffIf};
+
+pub struct Pen {
+    pub left: u64,
+    pub cut: bool,
+}
+
+// Stores one word.
+pub fn put(rec: &mut [u64], pen: Pen, at: usize, w: u64) -> Pen
+    requires { ⌜ at < length (now rec) ⌝ }
+    ensures { λ r. ⌜ desk (now (rec .exit)) r ≡ putTo (store at w) (desk (now (rec .entry)) pen) ⌝ }
+{
+    if pen.cut {
+        return pen;
+    }
+    let left = pen.left;
+    if left == 0 {
+        return Pen { left: 0, cut: true };
+    }
+    rec[at] = w;
+    Pen {
+        left: left - 1,
+        cut: false,
+    }
+}
+
+// Stores one word where asked.
+pub fn put_if(rec: &mut [u64], pen: Pen, asked: bool, at: usize, w: u64) -> Pen
+    requires { ⌜ at < length (now rec) ⌝ }
+    ensures { λ r. ⌜ desk (now (rec .exit)) r ≡ run (storeIf asked (store at w)) (desk (now (rec .entry)) pen) ⌝ }
+{
+    if !asked {
+        return pen;
+    }
+    put(rec, pen, at, w)
+}
+
+// Where asked, makes the word be w, with no store where it is w already.
+pub fn change(rec: &mut [u64], pen: Pen, asked: bool, at: usize, w: u64) -> Pen
+    requires { ⌜ at < length (now rec) ⌝ }
+    ensures { λ r. ⌜ desk (now (rec .exit)) r ≡ run (diffIf asked (store at w) (now (rec .entry))) (desk (now (rec .entry)) pen) ⌝ }
+{
+    if !asked {
+        return pen;
+    }
+    if rec[at] == w {
+        return pen;
+    }
+    put(rec, pen, at, w)
+}
