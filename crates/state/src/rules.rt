@@ -1,0 +1,143 @@
+// Line rules 4 to 7, with the sender as own head.
+use crate::State;
+use group::Group;
+use group::words::formed_ok;
+use group::words::has_head;
+use group::words::number_of;
+use group::words::primary_ok;
+use group::words::rank_of;
+use group::words::sound;
+ghost use mathlib.Core.Path.{_≡_};
+ghost use Prim.Native.Nat.{_≤_, _<_};
+ghost use lib.ListN.{getD};
+ghost use lib.Dec.{leb};
+ghost use Rattle.loops.specs.Below.{allBelow};
+ghost use Rattle.group.specs.Words.{num, formedOk};
+ghost use Rattle.group.specs.Words.{sound as soundOf};
+ghost use Rattle.state.specs.Rules.{placeOk, prior, keepsRules};
+ghost use Rattle.state.specs.Rules.{rule4 as rule4Of, rule5 as rule5Of, rule6 as rule6Of, rule7 as rule7Of, broken as brokenOf};
+
+// Each of the first n words is a session with heads, or 0.
+fn all_sound(words: [u64; Group::HEADS], n: usize) -> bool
+    requires { ⌜ n ≤ 16 ⌝ }
+    ensures { λ r. ⌜ r ≡ allBelow n (λ i. soundOf (getD words i 0)) ⌝ }
+{
+    let mut ok = true;
+    for i in 0..n {
+        ok = ok & sound(words[i]);
+    }
+    ok
+}
+
+// Each of the first n words has a number of at most top.
+fn all_within(words: [u64; Group::HEADS], n: usize, top: u64) -> bool
+    requires { ⌜ n ≤ 16 ⌝ }
+    ensures { λ r. ⌜ r ≡ allBelow n (λ i. leb (num (getD words i 0)) top) ⌝ }
+{
+    let mut ok = true;
+    for i in 0..n {
+        ok = ok & (number_of(words[i]) <= top);
+    }
+    ok
+}
+
+fn all_formed_ok(own: usize, p: u64, words: [u64; Group::HEADS]) -> bool
+    requires { ⌜ own < 16 ⌝ }
+    ensures { λ r. ⌜ r ≡ allBelow 16 (λ q. formedOk own p q (getD words q 0)) ⌝ }
+{
+    let mut ok = true;
+    for q in 0..Group::HEADS {
+        ok = ok & formed_ok(own, p, q, words[q]);
+    }
+    ok
+}
+
+// A place of head own with last primary p, after the place before it.
+fn place_ok(own: usize, p: u64, before: u64, w: u64) -> bool
+    requires { ⌜ own < 16 ⌝ }
+    ensures { λ r. ⌜ r ≡ placeOk own p before w ⌝ }
+{
+    (number_of(before) < number_of(w)) & (rank_of(p) < rank_of(w)) & has_head(w, own)
+}
+
+fn all_place_ok(own: usize, p: u64, words: [u64; Group::HEADS], n: usize) -> bool
+    requires { ⌜ (own < 16) × (n ≤ 16) ⌝ }
+    ensures { λ r. ⌜ r ≡ allBelow n (λ i. placeOk own p (prior words i) (getD words i 0)) ⌝ }
+{
+    let mut ok = true;
+    let mut before: u64 = 0;
+    for i in 0..n {
+        let w = words[i];
+        ok = ok & place_ok(own, p, before, w);
+        before = w;
+    }
+    ok
+}
+
+fn rule4(st: State) -> bool
+    requires { ⌜ st .count ≤ 16 ⌝ }
+    ensures { λ r. ⌜ r ≡ rule4Of st ⌝ }
+{
+    let formed = st.formed;
+    let places = st.places;
+    sound(st.primary) & all_sound(formed, Group::HEADS) & all_sound(places, st.count)
+}
+
+fn rule5(st: State, sender: usize) -> bool
+    requires { ⌜ sender < 16 ⌝ }
+    ensures { λ r. ⌜ r ≡ rule5Of st sender ⌝ }
+{
+    let formed = st.formed;
+    primary_ok(sender, st.primary) & all_formed_ok(sender, st.primary, formed)
+}
+
+fn rule6(st: State, sender: usize) -> bool
+    requires { ⌜ (sender < 16) × (st .count ≤ 16) ⌝ }
+    ensures { λ r. ⌜ r ≡ rule6Of st sender ⌝ }
+{
+    let places = st.places;
+    all_place_ok(sender, st.primary, places, st.count)
+}
+
+fn rule7(st: State) -> bool
+    requires { ⌜ st .count ≤ 16 ⌝ }
+    ensures { λ r. ⌜ r ≡ rule7Of st ⌝ }
+{
+    let formed = st.formed;
+    let places = st.places;
+    let top = st.number as u64;
+    (number_of(st.primary) <= top)
+        & all_within(formed, Group::HEADS, top)
+        & all_within(places, st.count, top)
+}
+
+// The first of rules 4 to 7 that the state breaks, 0 if it keeps them.
+pub fn broken(st: State, sender: usize) -> u8
+    requires { ⌜ (sender < 16) × (st .count ≤ 16) ⌝ }
+    ensures { λ r. ⌜ r ≡ brokenOf st sender ⌝ }
+{
+    if !rule4(st) {
+        return 4;
+    }
+    if !rule5(st, sender) {
+        return 5;
+    }
+    if !rule6(st, sender) {
+        return 6;
+    }
+    if !rule7(st) {
+        return 7;
+    }
+    0
+}
+
+// The state keeps rules 4 to 7, with at most 16 places.
+pub fn keeps_rules(st: State, sender: usize) -> bool
+    requires { ⌜ sender < 16 ⌝ }
+    ensures { λ r. ⌜ r ≡ keepsRules st sender ⌝ }
+{
+    if Group::PLACES < st.count {
+        return false;
+    }
+    broken(st, sender) == 0
+}
