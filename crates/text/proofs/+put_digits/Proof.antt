@@ -1,0 +1,148 @@
+-- By recursion on the number of digits left: the digits in front, and then the last.
+use lib.ListN.{take}
+use Rattle.text.proofs.Laws.Text.{digits-none, digits-one, digits-more}
+use native.Mathlib.Omega.{arith}
+use Prim.Native.Nat.{ℕ, _<_}
+use borrow.Fn.Kinds.{In}
+use borrow.Fn.PlainCycle.{Measures, is, falls, and}
+use Rattle.text.proofs.put_digits.Reads as put-digits
+use Rattle.text.proofs.put_digits.Kinds as put-digits-kinds
+use Rattle.text.proofs.+put_digits.Lts-put_digits as put-digits-lts
+use Rattle.text.proofs.put.Reads as put-reads
+use Rattle.text.proofs.+put_digits.{statement}
+use Rattle.text.proofs.+put_digits.Tie.{close}
+
+abbrev μ-put-digits : Measures 1 put-digits-kinds.ps ℕ
+μ-put-digits κs a = a .1 .1 .1 .0
+
+abbrev put-digits-at : ℕ → In 1 put-digits-kinds.ps
+put-digits-at t =
+    and 1 put-digits-kinds.ps (is 1 put-digits-kinds.ps μ-put-digits t) put-digits.Pre
+
+abbrev put-digits-below : ℕ → In 1 put-digits-kinds.ps
+put-digits-below t =
+    and 1 put-digits-kinds.ps (falls 1 put-digits-kinds.ps _<_ μ-put-digits t) put-digits.Pre
+
+put-digits-returns : (t : ℕ) → put-digits-lts.Need-returns (
+  put-reads.Asked,
+  put-reads.Learnt,
+  put-digits-below t,
+  put-digits.Post,
+) (put-digits-at t) put-digits.Post
+put-digits-returns t c =
+    let a = c .before .before .args in
+    (omega arith, rw (c .if1 .taken) (digits-none (take (a .at) (a .out .now)) (a .n)))
+
+put-digits-cast-d : (t : ℕ) → put-digits-lts.Need-cast-d (
+  put-reads.Asked,
+  put-reads.Learnt,
+  put-digits-below t,
+  put-digits.Post,
+) (put-digits-at t) put-digits.Post
+put-digits-cast-d t c = omega arith
+
+put-digits-add-put : (t : ℕ) → put-digits-lts.Need-add-put (
+  put-reads.Asked,
+  put-reads.Learnt,
+  put-digits-below t,
+  put-digits.Post,
+) (put-digits-at t) put-digits.Post
+put-digits-add-put t c = omega arith
+
+put-digits-put-requires : (t : ℕ) → put-digits-lts.Need-put-requires (
+  put-reads.Asked,
+  put-reads.Learnt,
+  put-digits-below t,
+  put-digits.Post,
+) (put-digits-at t) put-digits.Post
+put-digits-put-requires t c κs = omega arith
+
+put-digits-same-length : (t : ℕ) → put-digits-lts.Need-same-length (
+  put-reads.Asked,
+  put-reads.Learnt,
+  put-digits-below t,
+  put-digits.Post,
+) (put-digits-at t) put-digits.Post
+put-digits-same-length t c = omega arith
+
+put-digits-returns-2 : (t : ℕ) → put-digits-lts.Need-returns-2 (
+  put-reads.Asked,
+  put-reads.Learnt,
+  put-digits-below t,
+  put-digits.Post,
+) (put-digits-at t) put-digits.Post
+put-digits-returns-2 t c =
+    let a = c .before .before .before .before .before .before .before .args in
+    (omega arith, digits-one (a .most) (a .n) (take (a .at) (a .out .now)) _ (c .before .before .before .before .before .if1 .left) (c .before .before .before .before .if2 .taken) (c .before .before .put .ensures .1))
+
+put-digits-sub-put-digits : (t : ℕ) → put-digits-lts.Need-sub-put-digits (
+  put-reads.Asked,
+  put-reads.Learnt,
+  put-digits-below t,
+  put-digits.Post,
+) (put-digits-at t) put-digits.Post
+put-digits-sub-put-digits t c = omega arith
+
+put-digits-put-digits-requires : (t : ℕ) → put-digits-lts.Need-put-digits-requires (
+  put-reads.Asked,
+  put-reads.Learnt,
+  put-digits-below t,
+  put-digits.Post,
+) (put-digits-at t) put-digits.Post
+put-digits-put-digits-requires t c κs = omega arith
+
+put-digits-add-put-2 : (t : ℕ) → put-digits-lts.Need-add-put-2 (
+  put-reads.Asked,
+  put-reads.Learnt,
+  put-digits-below t,
+  put-digits.Post,
+) (put-digits-at t) put-digits.Post
+put-digits-add-put-2 t c = omega arith
+
+put-digits-put-requires-2 : (t : ℕ) → put-digits-lts.Need-put-requires-2 (
+  put-reads.Asked,
+  put-reads.Learnt,
+  put-digits-below t,
+  put-digits.Post,
+) (put-digits-at t) put-digits.Post
+put-digits-put-requires-2 t c κs = omega arith
+
+put-digits-same-length-2 : (t : ℕ) → put-digits-lts.Need-same-length-2 (
+  put-reads.Asked,
+  put-reads.Learnt,
+  put-digits-below t,
+  put-digits.Post,
+) (put-digits-at t) put-digits.Post
+put-digits-same-length-2 t c = omega arith
+
+put-digits-returns-3 : (t : ℕ) → put-digits-lts.Need-returns-3 (
+  put-reads.Asked,
+  put-reads.Learnt,
+  put-digits-below t,
+  put-digits.Post,
+) (put-digits-at t) put-digits.Post
+put-digits-returns-3 t c =
+    let a = c .before .before .before .before .before .before .before .before .before .before .before .args in
+    (omega arith, digits-more (a .most) (a .n) (take (a .at) (a .out .now)) _ _ (c .before .before .before .before .before .before .before .before .before .if1 .left) (c .before .before .before .before .before .before .before .before .if2 .left) (c .before .before .before .before .before .before .put-digits .ensures .1) (c .before .before .put2 .ensures .1))
+
+pub +put-digits-spec : {M : Type 1} → statement M
++put-digits-spec = close μ-put-digits λ t. put-digits-lts.spec (
+  put-reads.Asked,
+  put-reads.Learnt,
+  put-digits-below t,
+  put-digits.Post,
+)
+    (put-digits-at t)
+    put-digits.Post
+    (put-digits-returns t)
+    (put-digits-cast-d t)
+    (put-digits-add-put t)
+    (put-digits-put-requires t)
+    (put-digits-same-length t)
+    (put-digits-returns-2 t)
+    (put-digits-sub-put-digits t)
+    (put-digits-put-digits-requires t)
+    (put-digits-add-put-2 t)
+    (put-digits-put-requires-2 t)
+    (put-digits-same-length-2 t)
+    (put-digits-returns-3 t)

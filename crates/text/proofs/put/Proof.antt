@@ -1,0 +1,22 @@
+-- One store at the place, and what stands before it is kept.
+use mathlib.Core.Path.{refl}
+use native.Mathlib.Numerals.{add-one}
+use lib.Seq.{take-suc-set}
+use borrow.Author.Needs.{needs}
+use Rattle.text.proofs.put.Statement.{statement}
+use Rattle.text.proofs.put.Tie as tie
+
+slice-write-out : tie.Need-slice-write-out
+slice-write-out c = search needs
+
+add-result : tie.Need-add-result
+add-result c = search needs
+
+same-length : tie.Need-same-length
+same-length c = search needs
+
+returns : tie.Need-returns
+returns c = (refl, rw add-one (take-suc-set _ _ _ (c .pre)))
+
+pub put-spec : {M : Type 1} → statement M
+put-spec = tie.close (tie.spec slice-write-out add-result same-length returns)

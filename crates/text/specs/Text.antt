@@ -1,0 +1,14 @@
+-- Numbers as text.
+use mathlib.Core.Bool.{cond}
+use mathlib.Core.List.{List, [], _∷_, _++_}
+use Prim.Native.Nat.{ℕ, zero, suc, _+_, _/_, _%_}
+use lib.Dec.{ltb}
+
+-- the last `most` digits of n in decimal, without zeros in front
+unfoldable pub digits : ℕ → ℕ → List ℕ
+digits zero n = []
+digits (suc most) n = cond (ltb n 10) ((48 + n % 10) ∷ []) (digits most (n / 10) ++ ((48 + n % 10) ∷ []))
+
+-- a number of 64 bits has at most 20 digits
+unfoldable pub decimal : ℕ → List ℕ
+decimal n = digits 20 n
