@@ -1,0 +1,6 @@
+-- The laws, one file a subject.
+pub mod Put
+pub mod Keep
+pub mod Shown
+pub mod Walk
+pub mod Parts
