@@ -1,0 +1,6 @@
+-- The laws, one file a subject.
+pub mod Layout
+pub mod Whole
+pub mod Fresh
+pub mod Outcome
+pub mod Start
