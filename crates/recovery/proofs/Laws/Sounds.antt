@@ -1,0 +1,81 @@
+-- Changes one after the other, and calls made of steps that are each one change: by induction on them.
+use mathlib.Core.Bool.{true}
+use mathlib.Core.Path.{_≡_, sym, ap, subst, _∙_}
+use mathlib.Core.List.{List, [], _∷_, _++_}
+use Prim.Native.Nat.{ℕ, zero, suc, _-_, _<_}
+use native.Mathlib.Omega.{arith}
+use lib.ListN.{length, take}
+use Rattle.store.specs.Desk.{Store, desk, budget, apply}
+use Rattle.store.specs.Program.{Step, exec, script, after, upTo}
+use Rattle.store.specs.Changes.{Change, allStores, begun, changesOf}
+use Rattle.store.proofs.Laws.Script.{apply-append}
+use Rattle.store.proofs.Laws.Program.{exec-take, upTo-none, upTo-next}
+use Rattle.store.proofs.Laws.Changes.{changes-script}
+use Rattle.record.specs.Whole.{whole}
+use Rattle.recovery.specs.Recover.{mended}
+use Rattle.recovery.specs.Statements.{Sound, Sounds, Sounds.last as last, Sounds.next as next}
+use Rattle.recovery.proofs.Laws.Cut.{recovers-done}
+
+-- ---- changes
+
+pub sounds-append : (cs ds : List Change) (r : List ℕ) → Sounds cs r → Sounds ds (apply (allStores cs) r) → Sounds (cs ++ ds) r
+unfolding allStores apply
+sounds-append [] ds r (last e) t = t
+sounds-append (c ∷ cs) ds r (next s ss) t = next s (sounds-append cs ds (apply c r) ss (subst (Sounds ds) (apply-append c (allStores cs) r) t))
+
+-- the record is whole before them, after those begun, and after all
+pub sounds-before : (cs : List Change) (r : List ℕ) → Sounds cs r → whole r ≡ true
+sounds-before [] r (last e) = e
+sounds-before (c ∷ cs) r (next s ss) = s .before
+
+pub sounds-begun : (cs : List Change) (r : List ℕ) (k : ℕ) → Sounds cs r → whole (apply (begun k cs) r) ≡ true
+unfolding begun apply
+sounds-begun [] r zero (last e) = e
+sounds-begun [] r (suc k) (last e) = e
+sounds-begun (c ∷ cs) r zero (next s ss) = s .before
+sounds-begun (c ∷ cs) r (suc k) (next s ss) = ap whole (apply-append c (begun (suc k - length c) cs) r) ∙ sounds-begun cs (apply c r) (suc k - length c) ss
+
+pub sounds-after : (cs : List Change) (r : List ℕ) → Sounds cs r → whole (apply (allStores cs) r) ≡ true
+unfolding allStores apply
+sounds-after [] r (last e) = e
+sounds-after (c ∷ cs) r (next s ss) = ap whole (apply-append c (allStores cs) r) ∙ sounds-after cs (apply c r) ss
+
+pub sounds-one : (c : Change) (r : List ℕ) → Sound r c → Sounds (c ∷ []) r
+sounds-one c r s = next s (last (s .after))
+
+-- ---- a call whose every step is one change
+
+-- of each record with P the step is one change, and P holds after it
+pub record Safe (P : List ℕ → Type 0) (f : Step) : Type 0 where
+  pub sound : (r : List ℕ) → P r → Sound r (f r)
+  pub kept : (r : List ℕ) → P r → P (apply (f r) r)
+
+pub data AllSafe (P : List ℕ → Type 0) : List Step → Type 0 where
+  none : AllSafe P []
+  more : {f : Step} {fs : List Step} → Safe P f → AllSafe P fs → AllSafe P (f ∷ fs)
+
+module _ {P : List ℕ → Type 0} where
+  pub safe-append : (a b : List Step) → AllSafe P a → AllSafe P b → AllSafe P (a ++ b)
+  safe-append [] b none q = q
+  safe-append (f ∷ a) b (more p ps) q = more p (safe-append a b ps q)
+
+  pub safe-upTo : (f : ℕ → Step) (n : ℕ) → ((i : ℕ) → i < n → Safe P (f i)) → AllSafe P (upTo n f)
+  safe-upTo f zero h = rw (upTo-none f) none
+  safe-upTo f (suc n) h = rw (upTo-next n f) (safe-append (upTo n f) (f n ∷ []) (safe-upTo f n (λ i l. h i (omega arith))) (more (h n (omega arith)) none))
+
+  module _ (good : (r : List ℕ) → P r → whole r ≡ true) where
+    pub safe-sounds : (fs : List Step) (r : List ℕ) → AllSafe P fs → P r → Sounds (changesOf fs r) r
+    unfolding changesOf
+    safe-sounds [] r none p = last (good r p)
+    safe-sounds (f ∷ fs) r (more s ss) p = next (s .sound r p) (safe-sounds fs (apply (f r) r) ss (s .kept r p))
+
+    -- WITH ANY BUDGET, RECOVERY OF WHAT THE CALL LEAVES GIVES THE RECORD AFTER THE CHANGES BEGUN
+    pub call-cut : (fs : List Step) (r : List ℕ) (k : ℕ) → AllSafe P fs → P r → mended (exec fs (desk r (budget k)) .rec) ≡ apply (begun k (changesOf fs r)) r
+    call-cut fs r k s p =
+        ap mended (exec-take fs k r ∙ ap (λ (a : List Store). apply (take k a) r) (sym (changes-script fs r)))
+        ∙ recovers-done (changesOf fs r) r (safe-sounds fs r s p) k
+
+  pub safe-after : (fs : List Step) (r : List ℕ) → AllSafe P fs → P r → P (after fs r)
+  unfolding after script apply
+  safe-after [] r none p = p
+  safe-after (f ∷ fs) r (more s ss) p = subst P (sym (apply-append (f r) (script fs (apply (f r) r)) r)) (safe-after fs (apply (f r) r) ss (s .kept r p))

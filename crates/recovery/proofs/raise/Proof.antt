@@ -1,0 +1,23 @@
+-- The change of the session number to the greatest number is the step.
+use mathlib.Core.Path.{_∙_}
+use Rattle.store.specs.Program.{stepBy}
+use Rattle.recovery.specs.Recover.{raiseStep}
+use borrow.Author.Needs.{needs}
+use Rattle.recovery.proofs.raise.Statement.{statement}
+use Rattle.recovery.proofs.raise.Tie as tie
+
+greatest-requires : tie.Need-greatest-requires
+greatest-requires c κs = search needs
+
+change-number-requires : tie.Need-change-number-requires
+change-number-requires c κs = search needs
+
+same-length : tie.Need-same-length
+same-length c = search needs
+
+returns : tie.Need-returns
+unfolding stepBy raiseStep
+returns c = c .before .before .change-number .ensures ∙ rw (c .before .before .before .before .greatest .ensures)
+
+pub raise-spec : {M : Type 1} → statement M
+raise-spec = tie.close (tie.spec greatest-requires change-number-requires same-length returns)
