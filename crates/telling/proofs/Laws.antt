@@ -1,0 +1,3 @@
+-- The laws, one file a subject.
+pub mod Rising
+pub mod Telling
