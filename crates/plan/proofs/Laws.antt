@@ -1,0 +1,13 @@
+-- The laws, one file a subject.
+pub mod Stores
+pub mod Marks
+pub mod Marked
+pub mod Adoption
+pub mod Clearing
+pub mod Branches
+pub mod Weighing
+pub mod Call
+pub mod Attempt
+pub mod After
+pub mod Decide
+pub mod Form
