@@ -1,0 +1,9 @@
+pub mod Fits
+pub mod Refusals
+pub mod Calls
+pub mod Hearing
+pub mod Writing
+pub mod Determined
+pub mod Kept
+pub mod Every
+pub mod Cases

@@ -1,0 +1,2 @@
+-- What is proved of the calls beside the code's contracts.
+pub mod Laws

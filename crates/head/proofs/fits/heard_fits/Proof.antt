@@ -1,0 +1,39 @@
+-- The code tests what the definition tests, in its order.
+use Rattle.head.specs.Fits.{heardFits}
+use borrow.Author.Needs.{needs}
+use Rattle.head.proofs.fits.heard_fits.Statement.{statement}
+use Rattle.head.proofs.fits.heard_fits.Tie as tie
+
+own-requires : tie.Need-own-requires
+own-requires c κs = search needs
+
+cast-me : tie.Need-cast-me
+cast-me c = search needs
+
+inside-requires : tie.Need-inside-requires
+inside-requires c κs = search needs
+
+inside-requires-2 : tie.Need-inside-requires-2
+inside-requires-2 c κs = search needs
+
+holds-requires : tie.Need-holds-requires
+holds-requires c κs = search needs
+
+holds-requires-2 : tie.Need-holds-requires-2
+holds-requires-2 c κs = search needs
+
+returns : tie.Need-returns
+unfolding heardFits
+returns c = cc
+
+pub heard-fits-spec : {M : Type 1} → statement M
+heard-fits-spec =
+    tie.close
+    (tie.spec
+    own-requires
+    cast-me
+    inside-requires
+    inside-requires-2
+    holds-requires
+    holds-requires-2
+    returns)

@@ -1,0 +1,66 @@
+-- Refused, all stays; else the one store is made, and the pen decides between cut and the session opened.
+use mathlib.Core.Path.{_≡_, sym, ap, _∙_}
+use denote.Ref.{now}
+use lib.ListN.{length}
+use Rattle.head.specs.Refusals.{checkNumber, enterRefusal}
+use Rattle.head.proofs.Laws.Fits.{usable-length}
+use Rattle.head.proofs.Laws.Refusals.{may-enter}
+use Rattle.head.proofs.Laws.Calls.{enter-refused, enter-done}
+use borrow.Author.Needs.{needs}
+use Rattle.head.proofs.session.Session.enter.Statement.{statement}
+use Rattle.head.proofs.session.Session.enter.Tie as tie
+
+allowed : (c : tie.After-enum-told) → enterRefusal (c .before .before .before .before .before .args .self) (now (c .before .before .before .before .before .args .rec)) (c .before .before .before .before .before .args .view) (c .before .before .before .before .before .args .heads) ≡ 0
+allowed c = sym (c .before .before .enter-check .ensures) ∙ ap checkNumber (c .enum-told .given .1)
+
+long : (c : tie.After-enum-told) → length (now (c .before .before .before .before .before .args .rec)) ≡ 52
+long c = usable-length _ _ (may-enter _ _ _ _ (allowed c) .fit)
+
+enter-check-requires : tie.Need-enter-check-requires
+enter-check-requires c κs = search needs
+
+enum-known-check : tie.Need-enum-known-check
+enum-known-check c = search needs
+
+same-length : tie.Need-same-length
+same-length c = search needs
+
+returns : tie.Need-returns
+returns c = sym (enter-refused _ _ _ _ _ (c .before .check .given .0 .0) (ap checkNumber (sym (c .before .check .given .1)) ∙ c .before .before .before .enter-check .ensures))
+
+enum-told : tie.Need-enum-told
+enum-told c = search needs
+
+own-requires : tie.Need-own-requires
+own-requires c κs = long (c .before)
+
+opened-requires : tie.Need-opened-requires
+opened-requires c κs = search needs
+
+put-entered-requires : tie.Need-put-entered-requires
+put-entered-requires c κs = long (c .before .before .before .before)
+
+under-requires : tie.Need-under-requires
+under-requires c κs = search needs
+
+same-length-2 : tie.Need-same-length-2
+same-length-2 c = search needs
+
+returns-2 : tie.Need-returns-2
+returns-2 c = c .under .ensures _ ∙ rw (c .before .before .before .before .before .opened .ensures, c .before .before .before .before .before .before .own .ensures .0) (sym (enter-done _ _ _ _ _ _ (allowed (c .before .before .before .before .before .before .before .before)) (c .before .before .before .put-entered .ensures)))
+
+pub enter-spec : {M : Type 1} → statement M
+enter-spec =
+    tie.close
+    (tie.spec
+    enter-check-requires
+    enum-known-check
+    same-length
+    returns
+    enum-told
+    own-requires
+    opened-requires
+    put-entered-requires
+    under-requires
+    same-length-2
+    returns-2)

@@ -1,0 +1,60 @@
+-- Refused, all stays; else plan's stores are made, and the pen decides between cut and the formed session.
+use mathlib.Core.Path.{_≡_, sym, ap, _∙_}
+use native.Mathlib.Omega.{arith}
+use denote.Ref.{now}
+use Rattle.record.proofs.Laws.Whole.{whole-parts}
+use Rattle.head.specs.Refusals.{checkNumber, formRefusal}
+use Rattle.head.proofs.Laws.Fits.{usable-length, usable-whole}
+use Rattle.head.proofs.Laws.Refusals.{may-form}
+use Rattle.head.proofs.Laws.Calls.{form-refused, form-done}
+use borrow.Author.Needs.{needs}
+use Rattle.head.proofs.session.Session.form.Statement.{statement}
+use Rattle.head.proofs.session.Session.form.Tie as tie
+
+allowed : (c : tie.After-enum-told) → formRefusal (c .before .before .before .before .before .args .self) (now (c .before .before .before .before .before .args .rec)) ≡ 0
+allowed c = sym (c .before .before .form-check .ensures) ∙ ap checkNumber (c .enum-told .given .1)
+
+form-check-requires : tie.Need-form-check-requires
+form-check-requires c κs = search needs
+
+enum-known-check : tie.Need-enum-known-check
+enum-known-check c = search needs
+
+same-length : tie.Need-same-length
+same-length c = search needs
+
+returns : tie.Need-returns
+returns c = sym (form-refused _ _ _ (c .before .check .given .0 .0) (ap checkNumber (sym (c .before .check .given .1)) ∙ c .before .before .before .form-check .ensures))
+
+enum-told : tie.Need-enum-told
+enum-told c = search needs
+
+at-stage-requires : tie.Need-at-stage-requires
+at-stage-requires c κs = search needs
+
+form-stores-requires : tie.Need-form-stores-requires
+form-stores-requires c κs = (usable-length _ _ (may-form _ _ (allowed (c .before .before)) .fit), omega (arith, whole-parts _ (usable-whole _ _ (may-form _ _ (allowed (c .before .before)) .fit)) .top))
+
+under-requires : tie.Need-under-requires
+under-requires c κs = search needs
+
+same-length-2 : tie.Need-same-length-2
+same-length-2 c = search needs
+
+returns-2 : tie.Need-returns-2
+returns-2 c = c .under .ensures _ ∙ rw (c .before .before .before .before .before .at-stage .ensures) (sym (form-done _ _ _ _ (allowed (c .before .before .before .before .before .before)) (c .before .before .before .form-stores .ensures)))
+
+pub form-spec : {M : Type 1} → statement M
+form-spec =
+    tie.close
+    (tie.spec
+    form-check-requires
+    enum-known-check
+    same-length
+    returns
+    enum-told
+    at-stage-requires
+    form-stores-requires
+    under-requires
+    same-length-2
+    returns-2)

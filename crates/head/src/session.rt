@@ -1,0 +1,111 @@
+// The session: what a head has heard in one view. Each call takes it by value and hands the next one back.
+use group::Answer;
+use group::heads::with_head;
+use state::Held;
+use state::State;
+use state::nothing_held;
+ghost use mathlib.Core.Path.{_≡_};
+ghost use Prim.Native.Nat.{_<_};
+ghost use Rattle.group.specs.Heads.{only};
+ghost use Rattle.head.specs.Session.{noSession, opened, withState, withAttempt, atStage};
+
+// Its stage is a number, so that any bytes from outside are some session.
+#[repr(C)]
+pub struct Session {
+    pub stage: u8,
+    pub view: u32,
+    pub members: u16,
+    pub states: u16,
+    pub attempts: u16,
+    pub held: Held,
+}
+
+// What a call hands back.
+pub struct Next {
+    pub answer: Answer,
+    pub session: Session,
+}
+
+// The set of one head.
+fn only(h: usize) -> u16
+    requires { ⌜ h < 16 ⌝ }
+    ensures { λ r. ⌜ r ≡ only h ⌝ }
+{
+    1u16 << h
+}
+
+impl Session {
+    pub const NONE: u8 = 0;
+
+    pub const UNDECIDED: u8 = 1;
+
+    pub const CLOSED: u8 = 2;
+
+    pub const ATTEMPTED: u8 = 3;
+
+    pub const FORMED: u8 = 4;
+
+    pub fn none() -> Session
+        ensures { λ r. ⌜ r ≡ noSession ⌝ }
+    {
+        let held = nothing_held();
+        Session {
+            stage: Session::NONE,
+            view: 0,
+            members: 0,
+            states: 0,
+            attempts: 0,
+            held: held,
+        }
+    }
+
+    // A session of own head, just entered.
+    pub fn opened(own: usize, view: u32, members: u16) -> Session
+        requires { ⌜ own < 16 ⌝ }
+        ensures { λ r. ⌜ r ≡ opened own view members ⌝ }
+    {
+        let held = nothing_held();
+        let me = only(own);
+        Session {
+            stage: Session::UNDECIDED,
+            view: view,
+            members: members,
+            states: me,
+            attempts: me,
+            held: held,
+        }
+    }
+
+    pub fn with_state(self, sender: u8, st: State) -> Session
+        requires { ⌜ sender < 16 ⌝ }
+        ensures { λ r. ⌜ r ≡ withState self sender st ⌝ }
+    {
+        let mut held = self.held;
+        held.of[sender as usize] = st;
+        Session {
+            stage: self.stage,
+            view: self.view,
+            members: self.members,
+            states: with_head(self.states, sender),
+            attempts: self.attempts,
+            held: held,
+        }
+    }
+
+    pub fn with_attempt(self, sender: u8) -> Session
+        requires { ⌜ sender < 16 ⌝ }
+        ensures { λ r. ⌜ r ≡ withAttempt self sender ⌝ }
+    {
+        let mut s = self;
+        s.attempts = with_head(s.attempts, sender);
+        s
+    }
+
+    pub fn at_stage(self, stage: u8) -> Session
+        ensures { λ r. ⌜ r ≡ atStage self stage ⌝ }
+    {
+        let mut s = self;
+        s.stage = stage;
+        s
+    }
+}
