@@ -1,0 +1,12 @@
+pub mod Ends
+pub mod Start
+pub mod Enter
+pub mod Recover
+pub mod Going
+pub mod Form
+pub mod Hear
+pub mod Write
+pub mod Begun
+pub mod Learn
+pub mod Attempt
+pub mod Decide

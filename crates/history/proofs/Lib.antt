@@ -1,0 +1,6 @@
+pub mod Abstraction
+pub mod Invariant
+pub mod Calls
+pub mod Theorem
+pub mod Recovers
+pub mod Examples

@@ -1,0 +1,1 @@
+// Theorems only: histories of many heads, and that there is only one count.
