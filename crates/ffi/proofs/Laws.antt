@@ -1,0 +1,2 @@
+-- The laws, one file for what they are about.
+pub mod Ends
