@@ -1,0 +1,13 @@
+//! Comparisons of the proved programs with `second`.
+
+pub mod proved_side;
+pub mod calls_compare;
+pub mod check;
+pub mod feed;
+pub mod frames_compare;
+pub mod history;
+pub mod line_gen;
+pub mod record_gen;
+pub mod rng;
+pub mod session_gen;
+pub mod side;
