@@ -1,6 +1,6 @@
 //! What is declared of the exported functions, in C and in Rust, is what the
 //! proved source exports: names, parameters in order, results. The numbers that
-//! the header names are those of the proved source.
+//! the header and the wrapper name are those of the proved source.
 
 use std::collections::BTreeMap;
 use std::fs;
@@ -176,6 +176,22 @@ fn c_numbers(text: &str) -> Numbers {
         Some((name.to_string(), three[2].parse().ok()?))
     });
     numbers.collect()
+}
+
+#[test]
+fn the_wrapper_names_the_refusals_of_the_proved_source() {
+    let named = head::Refusal::ALL.map(|refusal| {
+        (
+            format!("HEAD_REFUSED_{}", upper(&format!("{refusal:?}"))),
+            refusal,
+        )
+    });
+    let numbers = named.map(|(name, refusal)| (name, u64::from(refusal.number())));
+    let codes = text("crates/ffi/src/codes.rt");
+    assert_eq!(
+        Numbers::from(numbers),
+        arms(&codes, "Refusal::", "REFUSED_")
+    );
 }
 
 #[test]
