@@ -115,7 +115,7 @@ static int storing(struct capture_head *h, struct call call)
     return HEAD_CUT;
 }
 
-/* Starts: word 0 first as 0, and in full last. */
+/* Starts: word 0 as 0 first, and in full last. */
 static bool start(struct capture_head *h, uint8_t own)
 {
     uint64_t fresh[HEAD_WORDS];
@@ -123,8 +123,7 @@ static bool start(struct capture_head *h, uint8_t own)
            "start was refused");
     uint64_t group = fresh[HEAD_WORD_GROUP];
     fresh[HEAD_WORD_GROUP] = 0;
-    return put(h, HEAD_WORD_GROUP, 0) && put_all(h, fresh) &&
-           put(h, HEAD_WORD_GROUP, group);
+    return put_all(h, fresh) && put(h, HEAD_WORD_GROUP, group);
 }
 
 /* Starts and enters. */

@@ -50,10 +50,9 @@ impl<S: Store> Head<S> {
             return Err(fault(code));
         }
         let mut head = Head::over(store)?;
-        let mut unmarked = fresh;
-        unmarked[0] = 0;
-        head.put(0, 0)?;
-        head.put_all(&unmarked)?;
+        let mut groupless = fresh;
+        groupless[0] = 0;
+        head.put_all(&groupless)?;
         head.put_all(&fresh)?;
         Ok(head)
     }

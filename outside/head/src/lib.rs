@@ -75,8 +75,7 @@
 //!
 //! ```compile_fail
 //! # use head::{Head, WORDS};
-//! # let mut store = [0; WORDS];
-//! # let mut head = Head::start(&mut store, 0, 0x0001, 1).unwrap();
+//! # let head = Head::start([0; WORDS], 0, 0x0001, 1).unwrap();
 //! let twin = head.clone();
 //! ```
 //!
@@ -84,8 +83,7 @@
 //!
 //! ```compile_fail
 //! # use head::{Head, WORDS};
-//! # let mut store = [0; WORDS];
-//! # let mut head = Head::start(&mut store, 0, 0x0001, 1).unwrap();
+//! # let head = Head::start([0; WORDS], 0, 0x0001, 1).unwrap();
 //! let other = Head { words: [0; WORDS], ..head };
 //! ```
 

@@ -51,6 +51,13 @@ impl Tally {
     }
 }
 
+fn after(mut words: Words, puts: &[(usize, u64)]) -> Words {
+    for (index, word) in puts {
+        words[*index] = *word;
+    }
+    words
+}
+
 fn number(answer: Answer) -> Result<Option<Decision>, u8> {
     match answer {
         Answer::Refused(refusal) => Err(refusal.number()),
@@ -108,6 +115,7 @@ impl Twin {
         let said = call(&mut self.head);
         if let Some((left, is_kept)) = cut {
             assert_eq!(said, Err(Fault::Stopped));
+            assert_eq!(self.head.words(), &after(self.words, &puts[..left]));
             self.lost(&puts[..left + usize::from(is_kept)], &call);
             return self.recover(tally, rng);
         }
@@ -115,15 +123,14 @@ impl Twin {
         assert_eq!(said.map_err(refused), number(answer), "{kind:?}");
         self.stored(&puts);
         self.session = session;
+        assert_eq!(self.head.words(), &self.words);
         assert_eq!(self.head.is_primary(), self.session.stage == Stage::Formed);
     }
 
     /// The words put are these, and the second program's record takes them.
     fn stored(&mut self, puts: &[(usize, u64)]) {
         assert_eq!(self.head.store().log.take(), puts);
-        for (index, word) in puts {
-            self.words[*index] = *word;
-        }
+        self.words = after(self.words, puts);
         assert_eq!(self.head.store().words, self.words);
     }
 
