@@ -1,6 +1,7 @@
 //! What is declared of the exported functions, in C and in Rust, is what the
-//! proved source exports: names, parameters in order, results. The numbers that
-//! the header and the wrapper name are those of the proved source.
+//! proved source exports: names, parameters in order, results; the structs that
+//! Rust declares have the source's fields (the gate compares the header's with
+//! Rust's). The numbers that the header and the wrapper name are the source's.
 
 use std::collections::BTreeMap;
 use std::fs;
@@ -126,6 +127,40 @@ fn the_rust_declarations_are_of_what_is_exported() {
         .expect("the declarations");
     let (linked, _) = linked.split_once("\n    }\n").expect("their end");
     assert_eq!(rust_functions(linked, "pub fn "), exported());
+}
+
+/// The fields of a public struct, each with its type, in order.
+fn fields(text: &str, name: &str) -> Vec<String> {
+    let (_, after) = text
+        .split_once(&format!("pub struct {name} {{"))
+        .expect(name);
+    let (fields, _) = after.split_once('}').expect("the struct's end");
+    let fields = fields.split(",\n").map(plain);
+    fields.filter(|field| !field.is_empty()).collect()
+}
+
+#[test]
+fn the_rust_structs_are_those_of_the_proved_source() {
+    let source = [
+        "state/src/lib.rt",
+        "head/src/session.rt",
+        "ffi/src/calls.rt",
+        "ffi/src/reading.rt",
+    ];
+    let source = source.map(|file| text(&format!("crates/{file}"))).concat();
+    assert_eq!(fields(&source, "Held"), ["pub of: [State; Group::HEADS]"]);
+    let source = source
+        .replace(": Held", ": [State; Group::HEADS]")
+        .replace("Group::HEADS", "16")
+        .replace("Group::PLACES", "16");
+    let declared = text("outside/proved/src/lib.rs");
+    for name in ["State", "Session", "HeadEnd", "HeadLine", "LineRead"] {
+        assert_eq!(fields(&declared, name), fields(&source, name), "{name}");
+        assert!(
+            source.contains(&format!("#[repr(C)]\npub struct {name} {{")),
+            "{name}"
+        );
+    }
 }
 
 type Numbers = BTreeMap<String, u64>;

@@ -1,7 +1,8 @@
 //! The exported functions of the proved library, as Rust declares them.
 //!
-//! Nothing checks these declarations against the proved source: a slice is an
-//! address and a length, a struct is laid out as C lays it out.
+//! A slice is an address and a length, a struct is laid out as C lays it out.
+//! The linker checks none of this; a test of `head` compares the text of the
+//! declarations with the proved source.
 
 /// What a state line carries; a session is its word, 0 for none.
 #[repr(C)]
