@@ -134,6 +134,22 @@ fn recover(head: Head<Flash>) -> Outcome<Head<Flash>> {
     Ok(head)
 }
 
+fn show_end(head: &Head<Flash>) -> Outcome<()> {
+    let formed = Session {
+        heads: CORE,
+        number: 1,
+    };
+    let primary = head.last_primary();
+    expect(primary == Some(formed), "another last primary")?;
+    let holds = if head.is_primary() { "yes" } else { "no" };
+    println!(
+        "head {}: last primary {}, primary now: {holds}",
+        head.own(),
+        shown(primary)
+    );
+    Ok(())
+}
+
 fn main() -> Outcome<()> {
     expect(quorum(CORE, LEAST, CORE, 0x0003)?, "no quorum")?;
     println!("core {CORE:04x}, minimum {LEAST}: 0003 may follow {CORE:04x}");
@@ -164,15 +180,5 @@ fn main() -> Outcome<()> {
     let cut = heads.pop().ok_or("unexpected: no head 2")?;
     heads.push(recover(cut)?);
 
-    let formed = Some(Session {
-        heads: CORE,
-        number: 1,
-    });
-    for head in &heads {
-        expect(head.last_primary() == formed, "another last primary")?;
-        let (own, primary) = (head.own(), shown(head.last_primary()));
-        let holds = if head.is_primary() { "yes" } else { "no" };
-        println!("head {own}: last primary {primary}, primary now: {holds}");
-    }
-    Ok(())
+    heads.iter().try_for_each(show_end)
 }

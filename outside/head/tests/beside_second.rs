@@ -250,22 +250,14 @@ fn round(twins: &mut [Twin], tally: &mut Tally, rng: &mut Rng, view: u32) {
         let heard = states.iter().filter(|_| !rng.one_in(30));
         heard.for_each(|line| twin.hear_state(line));
         let decide = |head: &mut Head<Flash>| head.decide().map(Some);
-        twin.storing(
-            tally,
-            rng,
-            Kind::Decide,
-            decide,
-            |words, session, budget| calls::decide(words, session, budget),
-        );
+        twin.storing(tally, rng, Kind::Decide, decide, calls::decide);
     }
     let attempts: Vec<Vec<u8>> = twins.iter_mut().filter_map(Twin::attempt_line).collect();
     for twin in twins.iter_mut() {
         let heard = attempts.iter().filter(|_| !rng.one_in(12));
         heard.for_each(|line| twin.hear_attempt(line));
         let form = |head: &mut Head<Flash>| head.form().map(|()| None);
-        twin.storing(tally, rng, Kind::Form, form, |words, session, budget| {
-            calls::form(words, session, budget)
-        });
+        twin.storing(tally, rng, Kind::Form, form, calls::form);
     }
 }
 
