@@ -6,7 +6,6 @@ pub mod Adoption
 pub mod Clearing
 pub mod Branches
 pub mod Weighing
-pub mod Call
 pub mod Attempt
 pub mod After
 pub mod Decide

@@ -1,3 +1,4 @@
+-- x
 -- Field by field: own head alone is heard, and no state is held.
 use Rattle.head.specs.Session.{opened}
 use borrow.Author.Needs.{needs}

@@ -1,0 +1,217 @@
+// d. The attempt: the highest number and primary among the members, the sessions weighed, and the decision.
+use changes::attempt;
+use group::Answer;
+use group::Group;
+use group::quorum::sub_quorum;
+use group::words::heads_of;
+use group::words::rank_of;
+use group::words::session_of;
+use members::highest_of;
+use members::is_member;
+use members::of_member;
+use record::layout::core;
+use record::layout::least;
+use record::layout::number;
+use record::layout::own;
+use record::layout::place_at;
+use record::layout::primary;
+use state::Held;
+use state::State;
+use store::Pen;
+ghost use mathlib.Core.Path.{_≡_};
+ghost use Prim.Native.Nat.{_<_, max};
+ghost use lib.ListN.{length};
+ghost use Rattle.loops.specs.Below.{allBelow, table};
+ghost use Rattle.group.specs.Answers.{said};
+ghost use Rattle.store.specs.Desk.{desk};
+ghost use Rattle.store.specs.Program.{stepBy};
+ghost use Rattle.state.specs.declared.Held.{Held};
+ghost use Rattle.plan.specs.Members.{heldOf};
+ghost use Rattle.plan.specs.Attempt.{primaryOf, highestNumber, highestPrimary, passesFor, ownWeighed, stateWeighed, listedWeighed, lowestFree, decision, attemptStep};
+ghost use Rattle.plan.specs.Attempt.{weighed as weighedBy, quorate as isQuorate};
+
+fn larger(a: u64, b: u64) -> u64
+    ensures { λ r. ⌜ r ≡ max a b ⌝ }
+{
+    if a < b {
+        return b;
+    }
+    a
+}
+
+fn state_number(st: State) -> u64
+    ensures { λ r. ⌜ r ≡ st .number ⌝ }
+{
+    st.number as u64
+}
+
+// The highest session number among the members.
+fn highest_number(rec: &[u64], m: u16, held: Held) -> u64
+    requires { ⌜ length (now rec) ≡ 52 ⌝ }
+    ensures { λ r. ⌜ r ≡ highestNumber m held (now (rec .entry)) ⌝ }
+{
+    let p = own(rec);
+    let mine = number(rec);
+    let mut n: u64 = 0;
+    for q in 0..Group::HEADS {
+        let st = held.of[q];
+        n = larger(n, of_member(m, p, q, mine, state_number(st)));
+    }
+    n
+}
+
+// The last primary of each member.
+fn primaries(rec: &[u64], m: u16, held: Held) -> [u64; Group::HEADS]
+    requires { ⌜ length (now rec) ≡ 52 ⌝ }
+    ensures { λ r. ⌜ r ≡ table 16 (primaryOf m held (now (rec .entry))) ⌝ }
+{
+    let p = own(rec);
+    let mine = primary(rec);
+    let mut all = [0u64; Group::HEADS];
+    for q in 0..Group::HEADS {
+        let st = held.of[q];
+        all[q] = of_member(m, p, q, mine, st.primary);
+    }
+    all
+}
+
+fn highest_primary(rec: &[u64], m: u16, held: Held) -> u64
+    requires { ⌜ length (now rec) ≡ 52 ⌝ }
+    ensures { λ r. ⌜ r ≡ highestPrimary m held (now (rec .entry)) ⌝ }
+{
+    highest_of(primaries(rec, m, held))
+}
+
+// M passes the quorum test for session w.
+fn passes_for(rec: &[u64], m: u16, w: u64) -> bool
+    requires { ⌜ length (now rec) ≡ 52 ⌝ }
+    ensures { λ r. ⌜ r ≡ passesFor m (now (rec .entry)) w ⌝ }
+{
+    sub_quorum(core(rec), least(rec), heads_of(w), m)
+}
+
+// Session w is not numbered above top, or M passes for it.
+fn weighed(rec: &[u64], m: u16, top: u64, w: u64) -> bool
+    requires { ⌜ length (now rec) ≡ 52 ⌝ }
+    ensures { λ r. ⌜ r ≡ weighedBy m (now (rec .entry)) top w ⌝ }
+{
+    if rank_of(w) <= rank_of(top) {
+        return true;
+    }
+    passes_for(rec, m, w)
+}
+
+fn own_weighed(rec: &[u64], m: u16, top: u64) -> bool
+    requires { ⌜ length (now rec) ≡ 52 ⌝ }
+    ensures { λ r. ⌜ r ≡ ownWeighed m (now (rec .entry)) top ⌝ }
+{
+    let mut ok = true;
+    for i in 0..Group::PLACES {
+        let w = place_at(rec, i);
+        ok = ok & weighed(rec, m, top, w);
+    }
+    ok
+}
+
+fn state_weighed(rec: &[u64], m: u16, top: u64, st: State) -> bool
+    requires { ⌜ length (now rec) ≡ 52 ⌝ }
+    ensures { λ r. ⌜ r ≡ stateWeighed m (now (rec .entry)) top st ⌝ }
+{
+    let places = st.places;
+    let count = st.count;
+    let mut ok = true;
+    for j in 0..Group::PLACES {
+        let w = places[j];
+        ok = ok & ((count <= j) | weighed(rec, m, top, w));
+    }
+    ok
+}
+
+// The sessions that head q lists, of whom state st is held.
+fn listed_weighed(rec: &[u64], m: u16, top: u64, q: usize, st: State) -> bool
+    requires { ⌜ (length (now rec) ≡ 52) × (q < 16) ⌝ }
+    ensures { λ r. ⌜ ((held : Held) → st ≡ heldOf held q → r ≡ listedWeighed m held (now (rec .entry)) top q) ⌝ }
+{
+    if !is_member(m, q) {
+        return true;
+    }
+    if q == own(rec) {
+        return own_weighed(rec, m, top);
+    }
+    state_weighed(rec, m, top, st)
+}
+
+// The sessions that any member lists.
+fn all_weighed(rec: &[u64], m: u16, held: Held, top: u64) -> bool
+    requires { ⌜ length (now rec) ≡ 52 ⌝ }
+    ensures { λ r. ⌜ r ≡ allBelow 16 (listedWeighed m held (now (rec .entry)) top) ⌝ }
+{
+    let mut ok = true;
+    for q in 0..Group::HEADS {
+        let st = held.of[q];
+        ok = ok & listed_weighed(rec, m, top, q, st);
+    }
+    ok
+}
+
+fn quorate(rec: &[u64], m: u16, held: Held) -> bool
+    requires { ⌜ length (now rec) ≡ 52 ⌝ }
+    ensures { λ r. ⌜ r ≡ isQuorate m held (now (rec .entry)) ⌝ }
+{
+    let top = highest_primary(rec, m, held);
+    if !passes_for(rec, m, top) {
+        return false;
+    }
+    all_weighed(rec, m, held, top)
+}
+
+// The lowest free place, 16 if there is none.
+fn lowest_free(rec: &[u64]) -> usize
+    requires { ⌜ length (now rec) ≡ 52 ⌝ }
+    ensures { λ r. ⌜ r ≡ lowestFree (now (rec .entry)) ⌝ }
+{
+    for i in 0..Group::PLACES {
+        if place_at(rec, i) == 0 {
+            return i;
+        }
+    }
+    Group::PLACES
+}
+
+// The pen after decide's stores, and the answer; it says nothing where the pen is cut.
+pub struct Decided {
+    pub pen: Pen,
+    pub answer: Answer,
+}
+
+// Attempts, or answers why not, in document 01's order.
+pub fn conclude(rec: &mut [u64], pen: Pen, m: u16, held: Held) -> Decided
+    requires { ⌜ length (now rec) ≡ 52 ⌝ }
+    ensures { λ r. ⌜ (desk (now (rec .exit)) (r .pen) ≡ stepBy (attemptStep m held) (desk (now (rec .entry)) pen)) × (said (r .answer) ≡ decision m held (now (rec .entry))) ⌝ }
+{
+    if !quorate(rec, m, held) {
+        return Decided {
+            pen,
+            answer: Answer::NoQuorum,
+        };
+    }
+    let highest = highest_number(rec, m, held);
+    if Group::TOP <= highest {
+        return Decided {
+            pen,
+            answer: Answer::NumbersRunOut,
+        };
+    }
+    let free = lowest_free(rec);
+    if Group::PLACES <= free {
+        return Decided {
+            pen,
+            answer: Answer::NoPlace,
+        };
+    }
+    let p = attempt(rec, pen, free, session_of(highest + 1, m));
+    Decided {
+        pen: p,
+        answer: Answer::Attempted,
+    }
+}
