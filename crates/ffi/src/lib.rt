@@ -26,7 +26,7 @@ pub extern "C" fn head_quorum(core: u16, least: u8, s: u16, t: u16) -> u8
 pub extern "C" fn head_start(words: &mut [u64], head: u8, core: u16, least: u8) -> u8
     ensures { λ r. ⌜ (r ≡ codeOf (startSpec (now (words .entry)) head core least .answer)) × (now (words .exit) ≡ startSpec (now (words .entry)) head core least .rec) ⌝ }
 {
-    code(record::start(words, head, core, least))
+    code(start::start(words, head, core, least))
 }
 
 #[no_mangle]
@@ -41,5 +41,5 @@ pub extern "C" fn head_recover(words: &mut [u64], stores: u64) -> u8
 pub extern "C" fn head_whole(words: &[u64]) -> u8
     ensures { λ r. ⌜ r ≡ cond (whole (now (words .entry))) 1 0 ⌝ }
 {
-    if record::whole::is_whole(words) { 1 } else { 0 }
+    if whole::is_whole(words) { 1 } else { 0 }
 }

@@ -1,0 +1,39 @@
+-- The two branches are the free place and the used one.
+use mathlib.Core.Path.{sym}
+use Rattle.record.proofs.Laws.Whole.{marks-free, marks-used}
+use borrow.Author.Needs.{needs}
+use Rattle.whole.proofs.marks_ok.Statement.{statement}
+use Rattle.whole.proofs.marks_ok.Tie as tie
+
+returns : tie.Need-returns
+returns c = sym (marks-free _ _ _ (c .if1 .taken))
+
+heads-of-requires : tie.Need-heads-of-requires
+heads-of-requires c κs = search needs
+
+cast-without-head : tie.Need-cast-without-head
+cast-without-head c = search needs
+
+without-head-requires : tie.Need-without-head-requires
+without-head-requires c κs = search needs
+
+wide-requires : tie.Need-wide-requires
+wide-requires c κs = search needs
+
+lies-in-requires : tie.Need-lies-in-requires
+lies-in-requires c κs = search needs
+
+returns-2 : tie.Need-returns-2
+returns-2 c = cc (marks-used _ _ _ (c .before .before .before .before .if1 .left))
+
+pub marks-ok-spec : {M : Type 1} → statement M
+marks-ok-spec =
+    tie.close
+    (tie.spec
+    returns
+    heads-of-requires
+    cast-without-head
+    without-head-requires
+    wide-requires
+    lies-in-requires
+    returns-2)
