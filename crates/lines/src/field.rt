@@ -15,13 +15,16 @@ pub fn two_at(f: &[u8], at: usize) -> u64
     hi * 256 + lo
 }
 
+// One sum of 32 bits, which the compiler reads as one load.
 pub fn four_at(f: &[u8], at: usize) -> u64
     requires { ⌜ at + 4 ≤ length (now f) ⌝ }
     ensures { λ r. ⌜ (r ≡ four (drop at (now (f .entry)))) × (r < 4294967296) ⌝ }
 {
-    let hi = two_at(f, at);
-    let lo = two_at(f, at + 2);
-    hi * 65536 + lo
+    let a = f[at] as u32;
+    let b = f[at + 1] as u32;
+    let c = f[at + 2] as u32;
+    let d = f[at + 3] as u32;
+    (a * 16777216 + b * 65536 + c * 256 + d) as u64
 }
 
 pub fn six_at(f: &[u8], at: usize) -> u64
@@ -34,7 +37,7 @@ pub fn six_at(f: &[u8], at: usize) -> u64
 }
 
 // The n sessions at a place, in sixteen words.
-pub fn words_at(f: &[u8], at: usize, n: usize) -> [u64; 16]
+pub fn words_at(f: &[u8], at: usize, n: usize) -> [u64; Group::PLACES]
     requires { ⌜ (n ≤ 16) × (at + n * 6 ≤ length (now f)) ⌝ }
     ensures { λ r. ⌜ r ≡ padded (words n (drop at (now (f .entry)))) ⌝ }
 {

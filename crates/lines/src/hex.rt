@@ -104,15 +104,13 @@ fn put_rest(s: &[u8], a: &mut [u8], from: usize)
     }
 }
 
-// The frame that the characters spell, and zeros after it.
-pub fn frame_of(s: &[u8]) -> [u8; 209]
-    requires { ⌜ length (now s) ≤ 418 ⌝ }
-    ensures { λ r. ⌜ (length r ≡ 209) × (take (length (now (s .entry)) / 2) r ≡ unhex (now (s .entry))) ⌝ }
+// Puts the frame that the characters spell.
+pub fn put_frame(s: &[u8], a: &mut [u8])
+    requires { ⌜ length (now s) / 2 ≤ length (now a) ⌝ }
+    ensures { λ _. ⌜ take (length (now (s .entry)) / 2) (now (a .exit)) ≡ unhex (now (s .entry)) ⌝ }
 {
-    let mut a = [0u8; 209];
-    let from = put_blocks(s, &mut a);
-    put_rest(s, &mut a, from);
-    a
+    let from = put_blocks(s, a);
+    put_rest(s, a, from);
 }
 
 // How many characters a search for a newline passes at once.

@@ -5,8 +5,8 @@ use crate::field::four_at;
 use crate::field::six_at;
 use crate::field::words_at;
 use crate::hex::digits;
-use crate::hex::frame_of;
 use crate::hex::line_end;
+use crate::hex::put_frame;
 use group::Group;
 use state::State;
 use state::broken;
@@ -34,7 +34,7 @@ fn head_ok(f: &[u8]) -> bool
     requires { ⌜ 6 ≤ length (now f) ⌝ }
     ensures { λ r. ⌜ r ≡ rule3 (now (f .entry)) ⌝ }
 {
-    !(four_at(f, 1) == 0) & (f[5] <= 15)
+    !(four_at(f, 1) == 0) & (f[5] <= Group::LAST)
 }
 
 // The state in a frame of the right length.
@@ -123,6 +123,9 @@ fn judge_frame(l: &[u8], f: &[u8]) -> Read
 // The most characters of a line before its newline.
 const MOST: usize = 418;
 
+// The bytes of the longest frame.
+const FRAME: usize = 209;
+
 // Judges the characters of a line that stand before its newline.
 pub fn judge(l: &[u8]) -> Read
     ensures { λ r. ⌜ r ≡ judged (now (l .entry)) ⌝ }
@@ -136,7 +139,8 @@ pub fn judge(l: &[u8]) -> Read
     if MOST < l.len() {
         return breaks(2);
     }
-    let frame = frame_of(l);
+    let mut frame = [0u8; FRAME];
+    put_frame(l, &mut frame);
     let n = l.len() / 2;
     judge_frame(l, &frame[..n])
 }

@@ -18,6 +18,12 @@ pub four-drop : (f : List ℕ) (at : ℕ) → four (drop at f) ≡ two (drop at 
 unfolding four
 four-drop f at = simp (drop-drop)
 
+pub four-bytes : (f : List ℕ) (at : ℕ)
+    → four (drop at f) ≡ getD f at 0 * 16777216 + getD f (at + 1) 0 * 65536 + getD f (at + 2) 0 * 256 + getD f (at + 3) 0
+four-bytes f at =
+    let e : at + 2 + 1 ≡ at + 3 = omega arith in
+    omega (arith, four-drop f at, two-drop f at, rw e at (two-drop f (at + 2)))
+
 pub six-drop : (f : List ℕ) (at : ℕ) → six (drop at f) ≡ four (drop at f) * 65536 + two (drop (at + 4) f)
 unfolding six
 six-drop f at = simp (drop-drop)

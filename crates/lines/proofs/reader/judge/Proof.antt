@@ -2,6 +2,8 @@
 use Rattle.lines.proofs.Laws.Reading.{line-digits, line-long, line-other, short-kind}
 use Rattle.loops.proofs.Laws.Truth.{failed, passed}
 use Rattle.lines.specs.Reading.{rule1}
+use Prim.Native.Nat.{ℕ}
+use lib.ListN.{length-replicate}
 use lib.Seq.{length-take-le}
 use mathlib.Core.Path.{_∙_, sym}
 use borrow.Author.Needs.{needs}
@@ -38,20 +40,23 @@ returns-3 c =
     let d = c .before .before .before in
     c .breaks3 .ensures ∙ sym (line-long _ (passed _ _ (d .before .digits .ensures) (d .if1 .left)) (c .before .if3 .taken))
 
-frame-of-requires : tie.Need-frame-of-requires
-frame-of-requires c κs = search needs
+slice-aggregate-put-frame : tie.Need-slice-aggregate-put-frame
+slice-aggregate-put-frame c = search needs
+
+put-frame-requires : tie.Need-put-frame-requires
+put-frame-requires c κs = search needs
 
 array-share-prefix-frame : tie.Need-array-share-prefix-frame
 array-share-prefix-frame c = search needs
 
 slice-aggregate-judge-frame : tie.Need-slice-aggregate-judge-frame
-slice-aggregate-judge-frame c = sym (length-take-le _ _ (omega (arith, c .before .frame-of .ensures .0)))
+slice-aggregate-judge-frame c = sym (length-take-le _ _ (omega (arith, c .before .before .put-frame .kept .1 .0, length-replicate {A = ℕ} 209 0)))
 
 judge-frame-requires : tie.Need-judge-frame-requires
 unfolding rule1
 judge-frame-requires c κs =
-    let d = c .before .before .before .before in
-    (passed _ _ (d .before .digits .ensures) (d .if1 .left), omega arith, c .before .frame-of .ensures .1)
+    let d = c .before .before .before .before .before .before in
+    (passed _ _ (d .before .digits .ensures) (d .if1 .left), omega arith, c .before .before .put-frame .ensures)
 
 returns-4 : tie.Need-returns-4
 returns-4 c = search needs
@@ -67,7 +72,8 @@ judge-spec =
     returns-2
     breaks-requires-3
     returns-3
-    frame-of-requires
+    slice-aggregate-put-frame
+    put-frame-requires
     array-share-prefix-frame
     slice-aggregate-judge-frame
     judge-frame-requires
