@@ -50,7 +50,7 @@ fn as_numbers(line: Line, state: State, left: usize) -> LineRead
 fn left_after(bytes: &[u8]) -> usize
     ensures { λ r. ⌜ r ≡ length (restOf (now (bytes .entry))) ⌝ }
 {
-    let rest = lines::rest(bytes);
+    let rest = hex::rest(bytes);
     rest.len()
 }
 
@@ -59,7 +59,7 @@ fn left_after(bytes: &[u8]) -> usize
 pub extern "C" fn head_read_line(bytes: &[u8]) -> LineRead
     ensures { λ r. ⌜ r ≡ lineRead (now (bytes .entry)) ⌝ }
 {
-    let read = lines::read_line(bytes);
+    let read = reader::read_line(bytes);
     let left = left_after(bytes);
     let line = read.line;
     let state = read.state;

@@ -1,20 +1,5 @@
-// Lines between heads: the reader and the writers.
-mod field;
-mod hex;
-mod reader;
-mod writer;
-
-pub use hex::digit_of;
-pub use hex::line_end;
-pub use hex::rest;
-pub use reader::judge;
-pub use reader::read_line;
-pub use reader::read_whole;
+// Lines between heads: their form, as definitions and theorems, and what a reader gives of one. The code is in the crates hex, reader and writer.
 use state::State;
-pub use writer::ATTEMPT_ROOM;
-pub use writer::STATE_ROOM;
-pub use writer::write_attempt;
-pub use writer::write_state;
 
 // What a line is, or the first rule that it breaks.
 pub enum Line {

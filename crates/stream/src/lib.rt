@@ -2,9 +2,9 @@
 mod show;
 
 use crate::show::print;
-use lines::judge;
-use lines::line_end;
-use lines::read_line;
+use hex::line_end;
+use reader::judge;
+use reader::read_line;
 ghost use mathlib.Core.Path.{_≡_};
 ghost use mathlib.Core.List.{[]};
 ghost use Prim.Native.Nat.{_+_, _*_, _-_, _≤_};

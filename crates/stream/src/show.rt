@@ -1,7 +1,7 @@
 // What is printed for a line that was judged.
+use hex::digit_of;
 use lines::Line;
 use lines::Read;
-use lines::digit_of;
 use text::put;
 use text::put_decimal;
 ghost use mathlib.Core.Path.{_≡_};

@@ -1,0 +1,44 @@
+-- Two stores spell a byte.
+use Rattle.lines.proofs.Laws.Writing.{spell-byte}
+use lib.ListN.{length-set}
+use borrow.Author.Needs.{needs}
+use native.Mathlib.Omega.{arith}
+use Rattle.writer.proofs.put_byte.Statement.{statement}
+use Rattle.writer.proofs.put_byte.Tie as tie
+
+mul-i : tie.Need-mul-i
+mul-i c = search needs
+
+digit-of-requires : tie.Need-digit-of-requires
+digit-of-requires c κs = search needs
+
+slice-write-out : tie.Need-slice-write-out
+slice-write-out c = search needs
+
+digit-of-requires-2 : tie.Need-digit-of-requires-2
+digit-of-requires-2 c κs = search needs
+
+add-out : tie.Need-add-out
+add-out c = search needs
+
+slice-write-out-2 : tie.Need-slice-write-out-2
+slice-write-out-2 c = simp length-set (omega arith)
+
+same-length : tie.Need-same-length
+same-length c = search needs
+
+returns : tie.Need-returns
+returns c = rw (c .before .digit-of .ensures, c .digit-of2 .ensures) (spell-byte _ _ _)
+
+pub put-byte-spec : {M : Type 1} → statement M
+put-byte-spec =
+    tie.close
+    (tie.spec
+    mul-i
+    digit-of-requires
+    slice-write-out
+    digit-of-requires-2
+    add-out
+    slice-write-out-2
+    same-length
+    returns)
