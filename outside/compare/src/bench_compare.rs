@@ -55,7 +55,7 @@ pub fn run(program: &mut dyn Program, options: &Options) -> Result<Counts, Strin
         counts.histories += 1;
         counts.lines += made.lines.len() as u64;
         counts.bytes += input.len() as u64;
-        if let Some(first) = difference(program, &made.lines, &feed) {
+        if let Some(first) = against(program, &made.lines, &made.expected, &feed) {
             return Err(report(program, options, number, made.lines, &feed, first));
         }
     }
@@ -91,19 +91,27 @@ fn fed(feed: &Feed) -> &'static str {
     }
 }
 
-/// Where the program's output differs from `second`'s on these lines; `None`
-/// if it does not. A program that fails differs.
-fn difference(program: &mut dyn Program, lines: &[Vec<u8>], feed: &Feed) -> Option<Difference> {
-    let input = lines.concat();
-    let expected = second_prints(&input);
-    match program.run(&input, feed) {
+/// Where the program's output differs from the expected one; `None` if it does
+/// not. A program that fails differs.
+fn against(
+    program: &mut dyn Program,
+    lines: &[Vec<u8>],
+    expected: &[u8],
+    feed: &Feed,
+) -> Option<Difference> {
+    match program.run(&lines.concat(), feed) {
         Err(error) => Some(Difference {
             at: lines.len(),
             text: format!("  the program failed: {error}"),
         }),
         Ok(out) if out == expected => None,
-        Ok(out) => Some(first_difference(lines, &expected, &out)),
+        Ok(out) => Some(first_difference(lines, expected, &out)),
     }
+}
+
+/// The same, of lines for which `second` has to be asked.
+fn difference(program: &mut dyn Program, lines: &[Vec<u8>], feed: &Feed) -> Option<Difference> {
+    against(program, lines, &second_prints(&lines.concat()), feed)
 }
 
 /// The first line of two outputs that differs, and the event it is for.

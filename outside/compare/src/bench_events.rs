@@ -52,3 +52,16 @@ pub fn kind(event: Event) -> &'static str {
         Event::Recover { .. } => "recover",
     }
 }
+
+/// The head that an event makes a call of, or arms.
+pub fn head_of(event: Event) -> Option<usize> {
+    match event {
+        Event::Group { .. } | Event::View { .. } => None,
+        Event::Enter { head, .. }
+        | Event::Decide { head }
+        | Event::Form { head }
+        | Event::Cut { head, .. }
+        | Event::Recover { head } => Some(head),
+        Event::DeliverState { to, .. } | Event::DeliverAttempt { to, .. } => Some(to),
+    }
+}

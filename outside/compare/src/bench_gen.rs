@@ -3,7 +3,7 @@
 //! they decide and form, and views change under them.
 
 use crate::bench_damage::{kinds, tails, Damage, VERY_LONG};
-use crate::bench_events::write_event;
+use crate::bench_events::{head_of, write_event};
 use crate::bench_met::Met;
 use crate::rng::Rng;
 use second::bench::{Bench, Event, VIEWS};
@@ -63,6 +63,8 @@ struct Maker<'a> {
     met: &'a mut Met,
     /// The view that each head is to be in; 0 if none.
     goals: [u32; HEADS],
+    /// The heads whose record may not be whole.
+    was_cut: [bool; HEADS],
     last_view: u32,
     error: Option<String>,
 }
@@ -101,6 +103,7 @@ pub fn history(seed: u64, number: u64, met: &mut Met) -> Result<History, String>
         },
         met,
         goals: [0; HEADS],
+        was_cut: [false; HEADS],
         last_view: 0,
         error: None,
     };
@@ -109,6 +112,24 @@ pub fn history(seed: u64, number: u64, met: &mut Met) -> Result<History, String>
         Some(error) => Err(error),
         None => Ok(maker.history),
     }
+}
+
+/// The first two sessions, if any, that break the chain: formed sessions have
+/// numbers of their own, and each shares a head with the one before.
+fn broken_chain(bench: &Bench) -> Option<String> {
+    let mut all = bench.formed.clone();
+    all.sort_by_key(|s| s.number);
+    let (mut heads, mut number) = (bench.w0, 0);
+    for session in all {
+        if session.number == number || session.heads & heads == 0 {
+            return Some(format!(
+                "a history of second broke the chain: {heads:04x} {number} then {:04x} {}",
+                session.heads, session.number
+            ));
+        }
+        (heads, number) = (session.heads, session.number);
+    }
+    None
 }
 
 impl Maker<'_> {
@@ -135,6 +156,9 @@ impl Maker<'_> {
         let sessions = self.bench.sessions();
         self.history.expected.extend(sessions.into_bytes());
         self.met.end(&self.bench);
+        if let Some(broken) = broken_chain(&self.bench) {
+            self.error = Some(broken);
+        }
     }
 
     fn line(&mut self, line: Vec<u8>) -> String {
@@ -145,7 +169,11 @@ impl Maker<'_> {
     }
 
     fn put(&mut self, event: Event) -> String {
-        self.line(write_event(&event))
+        let said = self.line(write_event(&event));
+        if let ("cut\n", Some(head)) = (said.as_str(), head_of(event)) {
+            self.was_cut[head] = true;
+        }
+        said
     }
 
     /// A line that is known to be no event: anything but 3 is an error of
@@ -387,9 +415,10 @@ impl Maker<'_> {
     /// An event that brings this head on; false if there is none.
     fn bring_on(&mut self, head: usize) -> bool {
         let state = &self.bench.heads[head];
-        if !whole(&state.record) {
+        if self.was_cut[head] && !whole(&state.record) {
             return self.mend(head);
         }
+        self.was_cut[head] = false;
         let session = &state.session;
         let view = session.view;
         let states = session.members & !session.states_heard;

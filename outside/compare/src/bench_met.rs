@@ -1,6 +1,6 @@
 //! What the histories of a bench comparison met, seen on `second`'s bench.
 
-use crate::bench_events::kind;
+use crate::bench_events::{head_of, kind};
 use second::bench::{read_event, Bench, Event, VIEWS};
 use second::calls::decide_stores;
 use second::group::{has, HEADS, PLACES};
@@ -180,19 +180,6 @@ impl Met {
         if bench.views.len() == VIEWS {
             self.note("history: 1,000 views announced");
         }
-    }
-}
-
-/// The head that an event makes a call of, or arms.
-fn head_of(event: Event) -> Option<usize> {
-    match event {
-        Event::Group { .. } | Event::View { .. } => None,
-        Event::Enter { head, .. }
-        | Event::Decide { head }
-        | Event::Form { head }
-        | Event::Cut { head, .. }
-        | Event::Recover { head } => Some(head),
-        Event::DeliverState { to, .. } | Event::DeliverAttempt { to, .. } => Some(to),
     }
 }
 
