@@ -206,5 +206,69 @@ pub fn slips() -> Vec<Slip> {
         "calls.rs": "write: attempt before deciding", "    refuse_if(session.stage == Stage::Undecided, Refusal::TooEarly)?;\n    refuse_if(output.len() < ATTEMPT" => "    refuse_if(output.len() < ATTEMPT";
         "calls.rs": "write: attempt only until formed", "    refuse_if(session.stage == Stage::Undecided, Refusal::TooEarly)?;\n    refuse_if(output.len() < ATTEMPT" => "    refuse_if(session.stage == Stage::Undecided, Refusal::TooEarly)?;\n    refuse_if(session.stage == Stage::Formed, Refusal::TooLate)?;\n    refuse_if(output.len() < ATTEMPT";
         "calls.rs": "write: the rest of the output cleared", "output[..line.len()].copy_from_slice(line);" => "output.fill(0);\n    output[..line.len()].copy_from_slice(line);";
+
+        "bench.rs": "upper case taken", "b'a'..=b'f' => Some(c - b'a' + 10)," => "b'a'..=b'f' => Some(c - b'a' + 10), b'A'..=b'F' => Some(c - b'A' + 10),";
+        "bench.rs": "CR before the newline taken", "line.strip_suffix(b\"\\n\")?" => "line.strip_suffix(b\"\\r\\n\").or_else(|| line.strip_suffix(b\"\\n\"))?";
+        "bench.rs": "last bytes without newline taken", "line.strip_suffix(b\"\\n\")?" => "line.strip_suffix(b\"\\n\").unwrap_or(line)";
+        "bench.rs": "last bytes without newline not counted", "Ok(!line.is_empty())" => "Ok(line.ends_with(b\"\\n\") || line.len() == most)";
+        "bench.rs": "a long line counted in parts", "input.skip_until(b'\\n')?;" => "";
+        "bench.rs": "bytes after an event passed over", "(0x14, 2) =>" => "(0x14, 2..) =>";
+        "bench.rs": "low byte first", "u16::from_be_bytes" => "u16::from_le_bytes";
+        "bench.rs": "heads over 15 taken round", "Some(bytes[at] as usize).filter(|&h| h < HEADS)" => "Some(bytes[at] as usize % HEADS)";
+        "bench.rs": "to and from exchanged", "(0x13, 4) => Event::DeliverState {\n            to: head(1)?,\n            from: head(2)?," => "(0x13, 4) => Event::DeliverState {\n            from: head(1)?,\n            to: head(2)?,";
+        "bench.rs": "k of one byte", "stores: two(2)," => "stores: bytes[3] as u16,";
+        "bench.rs": "view 0 not of the form", "(0x11, 7) => Event::View {" => "(0x11, 7) if four(1) != 0 => Event::View {";
+        "bench.rs": "view without heads not of the form", "(0x11, 7) => Event::View {" => "(0x11, 7) if two(5) != 0 => Event::View {";
+
+        "bench.rs": "14 before 3", "None => Err(NO_EVENT)," => "None if self.heads.is_empty() => Err(OUT_OF_PLACE),\n            None => Err(NO_EVENT),";
+        "bench.rs": "a group that start refuses gives 14", "return Err(NO_EVENT);" => "return Err(OUT_OF_PLACE);";
+        "bench.rs": "a group that start refuses gives 1", "return Err(NO_EVENT);" => "return Err(1);";
+        "bench.rs": "a refused group after a group gives 14", "        let mut heads = Vec::new();\n        for own" => "        if self.heads.len() > 0 { return Err(OUT_OF_PLACE); }\n        let mut heads = Vec::new();\n        for own";
+        "bench.rs": "a second group line starts anew", "if !self.heads.is_empty() {" => "if false {";
+        "bench.rs": "a group with Q 0 refused", "if start(" => "if q == 0 || start(";
+        "bench.rs": "1,001 views", "self.views.len() >= VIEWS" => "self.views.len() > VIEWS";
+        "bench.rs": "999 views", "self.views.len() >= VIEWS" => "self.views.len() + 1 >= VIEWS";
+        "bench.rs": "view numbers past 1,000 refused", "self.views.len() >= VIEWS" => "number > 1000";
+        "bench.rs": "a view announced twice taken", "self.members(number).is_some() || self.views.len()" => "self.views.len()";
+        "bench.rs": "a view announced twice counted", "        if self.members(number).is_some() ||" => "        if self.members(number).is_some() { self.views.push((number, heads)); return Err(OUT_OF_PLACE); }\n        if";
+        "bench.rs": "a head outside the view gives 14", "self.members(view).ok_or" => "self.members(view).filter(|m| (m >> head) & 1 == 1).ok_or";
+        "bench.rs": "which over 3 gives 3", "let line = self.heads[from].sent.get(which as usize);" => "if which > 3 { return Err(NO_EVENT); }\n        let line = self.heads[from].sent.get(which as usize);";
+        "bench.rs": "a line not kept gives 3", "line.cloned().ok_or(OUT_OF_PLACE)" => "line.cloned().ok_or(NO_EVENT)";
+
+        "bench.rs": "five lines kept", "pub const KEPT: usize = 4;" => "pub const KEPT: usize = 5;";
+        "bench.rs": "three lines kept", "pub const KEPT: usize = 4;" => "pub const KEPT: usize = 3;";
+        "bench.rs": "which counted from the oldest", "sent.get(which as usize)" => "sent.iter().rev().nth(which as usize)";
+        "bench.rs": "attempts kept apart from states", "self.sent.truncate(KEPT);" => "let mut of_kind = 0;\n            self.sent.retain(|l| { of_kind += (l[1] == line[1]) as usize; l[1] != line[1] || of_kind <= KEPT });";
+        "bench.rs": "only wanted kinds counted", "let line = self.kept(from, which)?;\n                word(self.heads[to].call(|r, s| calls::hear_state" => "let line = self.heads[from].sent.iter().filter(|l| l[1] == b'1').nth(which as usize).cloned().ok_or(OUT_OF_PLACE)?;\n                word(self.heads[to].call(|r, s| calls::hear_state";
+        "bench.rs": "attempting sends nothing", "if answer == Answer::Attempted {" => "if false {";
+        "bench.rs": "a decision sends the attempt whatever its answer", "if answer == Answer::Attempted {" => "if !matches!(answer, Answer::Refused(_)) {\n            self.sent.insert(0, b\"020000000100\\n\".to_vec());";
+        "bench.rs": "a cut entry sends", "if answer == Answer::Entered {" => "if answer == Answer::Cut { self.sent.insert(0, Vec::new()); }\n        if answer == Answer::Entered {";
+        "bench.rs": "an attempt delivered as a state", "calls::hear_attempt(r, s, &line)" => "calls::hear_state(r, s, &line)";
+        "bench.rs": "kept lines lost by recovery", "let answer = recover(&mut self.record, stores);" => "self.sent.clear();\n        let answer = recover(&mut self.record, stores);";
+        "bench.rs": "recovery keeps the session", "if !matches!(answer, Answer::Refused(_)) {" => "if false {";
+        "bench.rs": "recovery is not cut", "recover(&mut self.record, stores)" => "recover(&mut self.record, stores.max(1000))";
+
+        "bench.rs": "a cut is never used up", "self.armed.take().map_or" => "self.armed.map_or";
+        "bench.rs": "a cut used up by an event refused with 14", "let members = self.members(view).ok_or(OUT_OF_PLACE)?;" => "let Some(members) = self.members(view) else { self.heads[head].armed = None; return Err(OUT_OF_PLACE) };";
+        "bench.rs": "a cut used up by a line refused with 3", "None => Err(NO_EVENT)," => "None => { for h in &mut self.heads { h.armed = None; } Err(NO_EVENT) }";
+        "bench.rs": "a cut used up by a delivery", "word(self.heads[to].call(|r, s| calls::hear_state" => "self.heads[to].armed = None;\n                word(self.heads[to].call(|r, s| calls::hear_state";
+        "bench.rs": "a cut kept by a refused entry", "let answer = self.call(|r, s| calls::enter(r, s, view, members, stores));" => "let answer = self.call(|r, s| calls::enter(r, s, view, members, stores));\n        if matches!(answer, Answer::Refused(_)) && stores != u64::MAX { self.armed = Some(stores as u16); }";
+        "bench.rs": "a cut kept by a refused decision", "let answer = self.call(|r, s| calls::decide(r, s, stores));" => "let answer = self.call(|r, s| calls::decide(r, s, stores));\n        if matches!(answer, Answer::Refused(_)) && stores != u64::MAX { self.armed = Some(stores as u16); }";
+        "bench.rs": "a cut kept by a refused form", "let answer = head.call(|r, s| calls::form(r, s, stores));" => "let answer = head.call(|r, s| calls::form(r, s, stores));\n        if matches!(answer, Answer::Refused(_)) && stores != u64::MAX { head.armed = Some(stores as u16); }";
+        "bench.rs": "a later cut does not replace", "self.heads[head].armed = Some(stores);" => "self.heads[head].armed.get_or_insert(stores);";
+        "bench.rs": "one cut for all heads", "self.heads[head].armed = Some(stores);" => "for h in &mut self.heads { h.armed = Some(stores); }";
+
+        "bench.rs": "sessions in the order of forming", "all.sort_by_key(|s| s.number);" => "all.rotate_right(1);";
+        "bench.rs": "sessions in falling number", "all.sort_by_key(|s| s.number);" => "all.sort_by_key(|s| u32::MAX - s.number);";
+        "bench.rs": "shared with the core group", "let shared = session.heads & before;" => "let shared = if before == 0 { 0 } else { session.heads & self.w0 };";
+        "bench.rs": "the first shares with itself", "let mut before = 0;" => "let mut before = self.w0;";
+        "bench.rs": "the core group's session not printed", "all.push(Session {\n            heads: self.w0,\n            number: 0,\n        });" => "";
+        "bench.rs": "sessions printed without a group line", "        if self.heads.is_empty() {\n            return String::new();\n        }" => "";
+        "bench.rs": "a cut form not listed", "(after != before, session_in(after))" => "(answer == Answer::Formed, session_in(after))";
+        "bench.rs": "a form without a store listed", "(after != before, session_in(after))" => "(!matches!(answer, Answer::Refused(_)), session_in(after))";
+        "bench.rs": "a session listed once for each head", "if !self.formed.contains(&session) {" => "if true {";
+        "bench.rs": "sessions of the same heads listed once", "if !self.formed.contains(&session) {" => "if !self.formed.iter().any(|f| f.heads == session.heads) {";
+        "bench.rs": "session numbers in hexadecimal", "F {:04x} {} {shared:04x}" => "F {:04x} {:x} {shared:04x}";
+        "bench.rs": "heads in upper case", "F {:04x} {} {shared:04x}" => "F {:04X} {} {shared:04x}";
     }
 }

@@ -40,6 +40,10 @@ fn sources(second: &Path) -> Result<Vec<(String, String)>, String> {
     let mut all = Vec::new();
     for entry in std::fs::read_dir(second.join("src")).map_err(|e| e.to_string())? {
         let path = entry.map_err(|e| e.to_string())?.path();
+        // The programs of the crate are not compared by the copies.
+        if path.is_dir() {
+            continue;
+        }
         let name = path.file_name().unwrap_or_default().to_string_lossy().into_owned();
         let text = std::fs::read_to_string(&path).map_err(|e| e.to_string())?;
         all.push((name, text));
@@ -105,7 +109,8 @@ fn run(
     }
     // The comparison that should see the change comes first.
     let names: &[&str] = match slip.map(|s| s.file) {
-        None => &["frames", "records", "calls"],
+        None => &["frames", "records", "calls", "bench"],
+        Some("bench.rs") => &["bench"],
         Some("lines.rs" | "frames.rs") => &["frames", "calls"],
         Some("calls.rs" | "head_session.rs") => &["calls"],
         Some(_) => &["records", "calls"],
