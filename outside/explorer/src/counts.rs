@@ -1,0 +1,169 @@
+//! What was met, and what should have been.
+
+use crate::call::answer_name;
+use crate::cuts::POSITIONS;
+use second::answers::Answer;
+use std::collections::BTreeMap;
+
+#[derive(Default)]
+pub struct Counts {
+    /// Worlds of each manner.
+    pub worlds: BTreeMap<&'static str, u64>,
+    /// Events made, by manner.
+    pub steps: BTreeMap<&'static str, u64>,
+    /// Calls of the histories and their answers.
+    pub answers: BTreeMap<(&'static str, &'static str), u64>,
+    /// Cuts by the store that was not made.
+    pub cuts: BTreeMap<(&'static str, &'static str), u64>,
+    /// Cuts by the number of stores made.
+    pub cut_after: BTreeMap<(&'static str, usize), u64>,
+    /// Calls made beside the histories to see stores and recoveries.
+    pub beside: u64,
+    /// Calls compared with `second`.
+    pub compared: u64,
+    pub sweeps: u64,
+    /// Recoveries of a cut record checked at every position of their own.
+    pub recoveries: u64,
+    pub formed: u64,
+    pub distinct_formed: u64,
+    pub longest_chain: usize,
+    /// The most places in use, by Q.
+    pub places: BTreeMap<u8, usize>,
+    pub walk_states: u64,
+    pub walk_ends: u64,
+}
+
+/// Calls with the answers that histories should meet.
+const ANSWERS: [(&str, &[&str]); 9] = [
+    ("start", &["started"]),
+    ("enter", &["entered", "cut", "refusal 2", "refusal 4", "refusal 5"]),
+    (
+        "hear state",
+        &["heard", "refusal 2", "refusal 3", "refusal 6", "refusal 7", "refusal 8"],
+    ),
+    (
+        "hear attempt",
+        &["heard", "refusal 2", "refusal 3", "refusal 6", "refusal 7", "refusal 8", "refusal 12"],
+    ),
+    (
+        "decide",
+        &[
+            "attempted", "no quorum", "numbers run out", "cut", "refusal 2", "refusal 6",
+            "refusal 9", "refusal 10",
+        ],
+    ),
+    (
+        "form",
+        &[
+            "formed", "cut", "refusal 2", "refusal 6", "refusal 9", "refusal 10", "refusal 11",
+            "refusal 12",
+        ],
+    ),
+    ("recover", &["recovered", "cut"]),
+    ("write state", &["written", "refusal 2", "refusal 6", "refusal 10", "refusal 13"]),
+    (
+        "write attempt",
+        &["written", "refusal 2", "refusal 6", "refusal 11", "refusal 12", "refusal 13"],
+    ),
+];
+
+fn more<K: Ord>(map: &mut BTreeMap<K, u64>, key: K) {
+    *map.entry(key).or_default() += 1;
+}
+
+impl Counts {
+    pub fn world(&mut self, manner: &'static str) {
+        more(&mut self.worlds, manner);
+    }
+
+    pub fn step(&mut self, manner: &'static str) {
+        more(&mut self.steps, manner);
+    }
+
+    pub fn answer(&mut self, call: &'static str, answer: Answer) {
+        more(&mut self.answers, (call, answer_name(answer)));
+    }
+
+    pub fn cut(&mut self, call: &'static str, store: &'static str, made: usize) {
+        more(&mut self.cuts, (call, store));
+        more(&mut self.cut_after, (call, made));
+    }
+
+    pub fn steps(&self) -> u64 {
+        self.steps.values().sum()
+    }
+
+    /// What should have been met and was not.
+    pub fn not_met(&self) -> Vec<String> {
+        let mut all = Vec::new();
+        for (call, answers) in ANSWERS {
+            for answer in answers {
+                if !self.answers.contains_key(&(call, *answer)) {
+                    all.push(format!("{call}: {answer}"));
+                }
+            }
+        }
+        for (call, names) in POSITIONS {
+            for name in names {
+                if !self.cuts.contains_key(&(call, *name)) {
+                    all.push(format!("{call} cut before {name}"));
+                }
+            }
+        }
+        all
+    }
+
+    fn refusals(&self) -> BTreeMap<u8, u64> {
+        let mut all = BTreeMap::new();
+        for ((_, answer), count) in &self.answers {
+            if let Some(number) = answer.strip_prefix("refusal ") {
+                *all.entry(number.parse().unwrap_or(0)).or_default() += count;
+            }
+        }
+        all
+    }
+
+    pub fn print(&self) {
+        let joined = |map: &BTreeMap<&str, u64>| {
+            let all: Vec<String> = map.iter().map(|(name, n)| format!("{name} {n}")).collect();
+            all.join(", ")
+        };
+        println!("worlds: {}", joined(&self.worlds));
+        println!("steps: {}", joined(&self.steps));
+        println!("calls and answers:");
+        for (call, _) in ANSWERS {
+            let of_call = self.answers.iter().filter(|((name, _), _)| *name == call);
+            let all: Vec<String> = of_call.map(|((_, name), n)| format!("{name} {n}")).collect();
+            println!("  {call}: {}", all.join(", "));
+        }
+        let refusals: Vec<String> =
+            self.refusals().iter().map(|(number, n)| format!("{number}: {n}")).collect();
+        println!("refusals by number: {}", refusals.join(", "));
+        self.print_cuts();
+        println!(
+            "formed: {} form calls stored word 3, {} different sessions, longest chain {}",
+            self.formed, self.distinct_formed, self.longest_chain
+        );
+        let places: Vec<String> =
+            self.places.iter().map(|(q, n)| format!("Q {q}: {n}")).collect();
+        println!("most places in use: {}", places.join(", "));
+        println!("walked: {} states, {} of them ends", self.walk_states, self.walk_ends);
+        println!(
+            "beside the histories: {} calls; {} sweeps, {} cut records recovered with every cut",
+            self.beside, self.sweeps, self.recoveries
+        );
+        println!("compared with second: {} calls", self.compared);
+    }
+
+    fn print_cuts(&self) {
+        println!("cuts by the store not made, and by the number of stores made:");
+        for (call, names) in POSITIONS {
+            let count = |name: &&str| self.cuts.get(&(call, *name)).copied().unwrap_or(0);
+            let all: Vec<String> = names.iter().map(|n| format!("{n} {}", count(n))).collect();
+            println!("  {call}: {}", all.join(", "));
+            let of_call = self.cut_after.iter().filter(|((name, _), _)| *name == call);
+            let all: Vec<String> = of_call.map(|((_, k), n)| format!("{k}: {n}")).collect();
+            println!("    after {}", all.join(", "));
+        }
+    }
+}
