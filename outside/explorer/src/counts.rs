@@ -1,7 +1,7 @@
 //! What was met, and what should have been.
 
 use crate::call::answer_name;
-use crate::cuts::POSITIONS;
+use crate::cuts::{NEVER, POSITIONS};
 use second::answers::Answer;
 use std::collections::BTreeMap;
 
@@ -9,7 +9,7 @@ use std::collections::BTreeMap;
 pub struct Counts {
     /// Worlds of each manner.
     pub worlds: BTreeMap<&'static str, u64>,
-    /// Events made, by manner.
+    /// Events that made a call, by manner.
     pub steps: BTreeMap<&'static str, u64>,
     /// Calls of the histories and their answers.
     pub answers: BTreeMap<(&'static str, &'static str), u64>,
@@ -105,7 +105,7 @@ impl Counts {
         }
         for (call, names) in POSITIONS {
             for name in names {
-                if !self.cuts.contains_key(&(call, *name)) {
+                if (call, *name) != NEVER && !self.cuts.contains_key(&(call, *name)) {
                     all.push(format!("{call} cut before {name}"));
                 }
             }

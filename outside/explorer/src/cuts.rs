@@ -17,6 +17,10 @@ pub struct Store {
     pub first: bool,
 }
 
+/// The store of decide that no history meets: who is in a formed session has
+/// attempted it, so its word 2 is not below the number.
+pub const NEVER: (&str, &str) = ("decide", "adoption: word 2");
+
 /// The positions where each call can be cut, by the store that is not made.
 pub const POSITIONS: [(&str, &[&str]); 4] = [
     ("enter", &["word 1"]),

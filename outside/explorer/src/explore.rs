@@ -47,8 +47,11 @@ impl Made {
         event: Event,
     ) -> Result<Option<Answer>, Failure> {
         self.events.push(event);
-        runner.counts.step(manner.name);
-        runner.step(&mut self.world, &event)
+        let answer = runner.step(&mut self.world, &event)?;
+        if answer.is_some() {
+            runner.counts.step(manner.name);
+        }
+        Ok(answer)
     }
 }
 

@@ -2,6 +2,7 @@
 
 use crate::event::{Budget, Event, Kind};
 use crate::manner::Manner;
+use crate::rounds::Rounds;
 use crate::world::World;
 use compare::rng::Rng;
 use second::group::heads_in;
@@ -11,7 +12,9 @@ use second::record::VIEW;
 pub struct Generator<'m> {
     pub rng: Rng,
     manner: &'m Manner,
-    announced: Vec<Event>,
+    /// What comes next, the last first.
+    queue: Vec<Event>,
+    rounds: Rounds,
     /// One event in so many announces views.
     pace: u64,
     /// Settles which lines are lost.
@@ -23,7 +26,7 @@ impl<'m> Generator<'m> {
         let n = heads as u64;
         let pace = rng.pick(&[2 * n + 2, n * n + 4, 2 * n * n + 4, 4 * n * n + 4]);
         let salt = rng.next();
-        Generator { rng, manner, announced: Vec::new(), pace, salt }
+        Generator { rng, manner, queue: Vec::new(), rounds: Rounds::new(manner.cut), pace, salt }
     }
 
     /// One that goes its own way from here.
@@ -31,14 +34,18 @@ impl<'m> Generator<'m> {
         Generator {
             rng: Rng::new(self.rng.next()),
             manner: self.manner,
-            announced: self.announced.clone(),
+            queue: self.queue.clone(),
+            rounds: Rounds::new(self.manner.cut),
             pace: self.pace,
             salt: self.rng.next(),
         }
     }
 
     pub fn next(&mut self, world: &World) -> Event {
-        if let Some(event) = self.announced.pop() {
+        if self.manner.rounds && self.queue.is_empty() {
+            self.queue = self.rounds.next(&mut self.rng, world);
+        }
+        if let Some(event) = self.queue.pop() {
             return event;
         }
         if world.views.is_empty() || self.rng.one_in(self.pace) {
@@ -67,6 +74,10 @@ impl<'m> Generator<'m> {
             of[self.rng.index(parts)] |= 1 << h;
         }
         match self.rng.below(6) {
+            _ if self.manner.pile => {
+                let other = 1 << self.rng.index(n);
+                of = vec![world.settings.w0 | other | all & self.rng.pick(&[0, other << 1])];
+            }
             0 => of = vec![all],
             1 => of = vec![all & self.rng.next() as u16],
             _ => {}
@@ -74,12 +85,12 @@ impl<'m> Generator<'m> {
         let mut view = world.views.keys().next_back().map_or(1, |v| v + 1);
         for heads in of {
             if heads != 0 && !self.rng.one_in(5) {
-                self.announced.push(Event::View { view, heads });
+                self.queue.push(Event::View { view, heads });
                 view += 1;
             }
         }
-        self.announced.reverse();
-        self.announced.pop().unwrap_or(Event::View { view, heads: all })
+        self.queue.reverse();
+        self.queue.pop().unwrap_or(Event::View { view, heads: all })
     }
 
     fn lost(&self, kind: Kind, view: u32, from: u8, to: u8) -> bool {
@@ -133,6 +144,9 @@ impl<'m> Generator<'m> {
     /// An event that brings the head on, if there is one.
     fn useful(&mut self, world: &World, head: u8) -> Option<Event> {
         let now = &world.heads[head as usize];
+        if now.is_torn() && self.rng.one_in(6) {
+            return Some(self.noise_of(world, head));
+        }
         if now.is_torn() || (now.cut.is_some() && self.rng.one_in(2)) {
             let budget = self.budget(3 + now.places_in_use() as u64);
             return Some(Event::Recover { head, budget });
@@ -159,7 +173,8 @@ impl<'m> Generator<'m> {
                 Some(Event::Form { head, budget })
             }
             Stage::Attempted => self.unheard(world, head, Kind::Attempt),
-            Stage::None | Stage::Closed | Stage::Formed => None,
+            Stage::Closed => self.unheard(world, head, Kind::Attempt),
+            Stage::None | Stage::Formed => None,
         };
         brought.or_else(|| self.enter(world, head))
     }
@@ -173,9 +188,13 @@ impl<'m> Generator<'m> {
         }
     }
 
-    /// A late or repeated line, a call out of turn, a stop.
     fn noise(&mut self, world: &World) -> Event {
         let head = self.rng.index(world.heads.len()) as u8;
+        self.noise_of(world, head)
+    }
+
+    /// A late or repeated line, a call out of turn, a stop.
+    fn noise_of(&mut self, world: &World, head: u8) -> Event {
         let from = self.rng.index(world.heads.len()) as u8;
         let last = world.views.keys().next_back().copied().unwrap_or(1);
         let back = self.rng.pick(&[0, 0, 1, 2, 5]);

@@ -10,6 +10,7 @@ pub mod event;
 pub mod explore;
 pub mod generate;
 pub mod manner;
+pub mod rounds;
 pub mod shrink;
 pub mod slipped;
 pub mod step;

@@ -20,9 +20,14 @@ pub struct Manner {
     pub sweep: u64,
     /// The session numbers begin near the end.
     pub late: bool,
+    /// A small core is in every view with few others, so that attempts pass
+    /// whatever was attempted before, and pile up.
+    pub pile: bool,
+    /// Events come by rounds.
+    pub rounds: bool,
 }
 
-pub const MANNERS: [Manner; 6] = [
+pub const MANNERS: [Manner; 9] = [
     Manner {
         name: "random",
         share: 4,
@@ -34,6 +39,8 @@ pub const MANNERS: [Manner; 6] = [
         lost_attempts: &[0, 10, 40],
         sweep: 0,
         late: false,
+        pile: false,
+        rounds: false,
     },
     // Few heads and views, much lost and cut.
     Manner {
@@ -47,6 +54,8 @@ pub const MANNERS: [Manner; 6] = [
         lost_attempts: &[0, 20, 40, 70],
         sweep: 0,
         late: false,
+        pile: false,
+        rounds: false,
     },
     Manner {
         name: "long",
@@ -59,6 +68,8 @@ pub const MANNERS: [Manner; 6] = [
         lost_attempts: &[0, 0, 5, 30],
         sweep: 0,
         late: false,
+        pile: false,
+        rounds: false,
     },
     Manner {
         name: "late",
@@ -71,6 +82,8 @@ pub const MANNERS: [Manner; 6] = [
         lost_attempts: &[0, 40],
         sweep: 0,
         late: true,
+        pile: false,
+        rounds: false,
     },
     Manner {
         name: "sweep",
@@ -83,6 +96,51 @@ pub const MANNERS: [Manner; 6] = [
         lost_attempts: &[0, 20, 60],
         sweep: 12,
         late: false,
+        pile: false,
+        rounds: false,
+    },
+    // Rounds without a cut, and with cuts.
+    Manner {
+        name: "rounds",
+        share: 4,
+        heads: (3, 5),
+        events: (60, 160),
+        cut: 0,
+        noise: 0,
+        lost_states: &[],
+        lost_attempts: &[],
+        sweep: 0,
+        late: false,
+        pile: false,
+        rounds: true,
+    },
+    Manner {
+        name: "cut rounds",
+        share: 4,
+        heads: (3, 6),
+        events: (60, 200),
+        cut: 6,
+        noise: 0,
+        lost_states: &[],
+        lost_attempts: &[],
+        sweep: 0,
+        late: false,
+        pile: false,
+        rounds: true,
+    },
+    Manner {
+        name: "pile",
+        share: 2,
+        heads: (6, 16),
+        events: (100, 1500),
+        cut: 15,
+        noise: 30,
+        lost_states: &[0],
+        lost_attempts: &[70, 100, 100],
+        sweep: 0,
+        late: false,
+        pile: true,
+        rounds: false,
     },
     // Walked without chance: only the heads are taken from here.
     Manner {
@@ -96,6 +154,8 @@ pub const MANNERS: [Manner; 6] = [
         lost_attempts: &[],
         sweep: 0,
         late: false,
+        pile: false,
+        rounds: false,
     },
 ];
 
@@ -104,6 +164,7 @@ impl Manner {
         let heads = rng.range(self.heads.0, self.heads.1) as usize;
         let all = ((1u32 << heads) - 1) as u16;
         let w0 = match rng.below(3) {
+            _ if self.pile => all & 1 << rng.below(4) & 0xf | all & 1 << rng.below(8),
             0 => all,
             1 => all & rng.next() as u16,
             _ => all & (rng.next() | rng.next()) as u16,

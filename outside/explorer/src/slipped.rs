@@ -16,7 +16,7 @@ pub enum Slip {
     None,
     /// An attempt clears all other places.
     KeepsLatest,
-    /// Entering a view drops all places but the latest.
+    /// Decide begins with dropping all places but the latest.
     DropsAfterLater,
     /// A tie goes to the lowest head.
     TieLowest,
@@ -124,6 +124,16 @@ struct Deciding<'s> {
 }
 
 impl Deciding<'_> {
+    /// Only a slip.
+    fn drop_earlier(&self, plan: &mut Plan) {
+        let mut used = plan.used();
+        used.sort_by_key(|&i| number(plan.now[PLACE + i]));
+        used.pop();
+        if self.slip == Slip::DropsAfterLater {
+            used.into_iter().for_each(|i| plan.clear(i));
+        }
+    }
+
     fn mark(&self, plan: &mut Plan) {
         for i in plan.used() {
             let s = plan.now[PLACE + i];
@@ -280,6 +290,7 @@ impl Slipped {
             others: others.into_iter().map(|q| (q, &session.held[q])).collect(),
         };
         let mut plan = Plan::new(record);
+        deciding.drop_earlier(&mut plan);
         deciding.mark(&mut plan);
         deciding.adopt(&mut plan);
         deciding.clear_under_c(&mut plan);
@@ -337,16 +348,7 @@ impl Side for Slipped {
             record[VIEW] -= 1;
             *session = HeadSession::none();
         }
-        let answer = Second.enter(record, session, view, members, budget);
-        if self.0 == Slip::DropsAfterLater && answer == Answer::Entered {
-            let mut plan = Plan::new(record);
-            let mut used = plan.used();
-            used.sort_by_key(|&i| number(plan.now[PLACE + i]));
-            used.pop();
-            used.into_iter().for_each(|i| plan.clear(i));
-            plan.make(record, u64::MAX);
-        }
-        answer
+        Second.enter(record, session, view, members, budget)
     }
 
     fn hear_state(&mut self, record: &mut [u64], session: &mut HeadSession, line: &[u8]) -> Answer {

@@ -90,9 +90,13 @@ impl Walk<'_, '_> {
 
     fn step(&mut self, world: &mut World, event: Event) -> Result<Option<Answer>, Failed> {
         self.path.push(event);
-        self.runner.counts.step("walk");
         match self.runner.step(world, &event) {
-            Ok(answer) => Ok(answer),
+            Ok(answer) => {
+                if answer.is_some() {
+                    self.runner.counts.step("walk");
+                }
+                Ok(answer)
+            }
             Err(failure) => Err(self.failed(world.settings, failure)),
         }
     }
