@@ -78,8 +78,19 @@ pub fn make(
 /// The name of an answer in the counts.
 pub fn answer_name(answer: Answer) -> &'static str {
     const REFUSALS: [&str; 14] = [
-        "refusal 0", "refusal 1", "refusal 2", "refusal 3", "refusal 4", "refusal 5", "refusal 6",
-        "refusal 7", "refusal 8", "refusal 9", "refusal 10", "refusal 11", "refusal 12",
+        "refusal 0",
+        "refusal 1",
+        "refusal 2",
+        "refusal 3",
+        "refusal 4",
+        "refusal 5",
+        "refusal 6",
+        "refusal 7",
+        "refusal 8",
+        "refusal 9",
+        "refusal 10",
+        "refusal 11",
+        "refusal 12",
         "refusal 13",
     ];
     match answer {

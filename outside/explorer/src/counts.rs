@@ -36,34 +36,80 @@ pub struct Counts {
 /// Calls with the answers that histories should meet.
 const ANSWERS: [(&str, &[&str]); 9] = [
     ("start", &["started"]),
-    ("enter", &["entered", "cut", "refusal 2", "refusal 4", "refusal 5"]),
+    (
+        "enter",
+        &["entered", "cut", "refusal 2", "refusal 4", "refusal 5"],
+    ),
     (
         "hear state",
-        &["heard", "refusal 2", "refusal 3", "refusal 6", "refusal 7", "refusal 8"],
+        &[
+            "heard",
+            "refusal 2",
+            "refusal 3",
+            "refusal 6",
+            "refusal 7",
+            "refusal 8",
+        ],
     ),
     (
         "hear attempt",
-        &["heard", "refusal 2", "refusal 3", "refusal 6", "refusal 7", "refusal 8", "refusal 12"],
+        &[
+            "heard",
+            "refusal 2",
+            "refusal 3",
+            "refusal 6",
+            "refusal 7",
+            "refusal 8",
+            "refusal 12",
+        ],
     ),
     (
         "decide",
         &[
-            "attempted", "no quorum", "numbers run out", "cut", "refusal 2", "refusal 6",
-            "refusal 9", "refusal 10",
+            "attempted",
+            "no quorum",
+            "numbers run out",
+            "cut",
+            "refusal 2",
+            "refusal 6",
+            "refusal 9",
+            "refusal 10",
         ],
     ),
     (
         "form",
         &[
-            "formed", "cut", "refusal 2", "refusal 6", "refusal 9", "refusal 10", "refusal 11",
+            "formed",
+            "cut",
+            "refusal 2",
+            "refusal 6",
+            "refusal 9",
+            "refusal 10",
+            "refusal 11",
             "refusal 12",
         ],
     ),
     ("recover", &["recovered", "cut"]),
-    ("write state", &["written", "refusal 2", "refusal 6", "refusal 10", "refusal 13"]),
+    (
+        "write state",
+        &[
+            "written",
+            "refusal 2",
+            "refusal 6",
+            "refusal 10",
+            "refusal 13",
+        ],
+    ),
     (
         "write attempt",
-        &["written", "refusal 2", "refusal 6", "refusal 11", "refusal 12", "refusal 13"],
+        &[
+            "written",
+            "refusal 2",
+            "refusal 6",
+            "refusal 11",
+            "refusal 12",
+            "refusal 13",
+        ],
     ),
 ];
 
@@ -133,21 +179,32 @@ impl Counts {
         println!("calls and answers:");
         for (call, _) in ANSWERS {
             let of_call = self.answers.iter().filter(|((name, _), _)| *name == call);
-            let all: Vec<String> = of_call.map(|((_, name), n)| format!("{name} {n}")).collect();
+            let all: Vec<String> = of_call
+                .map(|((_, name), n)| format!("{name} {n}"))
+                .collect();
             println!("  {call}: {}", all.join(", "));
         }
-        let refusals: Vec<String> =
-            self.refusals().iter().map(|(number, n)| format!("{number}: {n}")).collect();
+        let refusals: Vec<String> = self
+            .refusals()
+            .iter()
+            .map(|(number, n)| format!("{number}: {n}"))
+            .collect();
         println!("refusals by number: {}", refusals.join(", "));
         self.print_cuts();
         println!(
             "formed: {} form calls stored word 3, {} different sessions, longest chain {}",
             self.formed, self.distinct_formed, self.longest_chain
         );
-        let places: Vec<String> =
-            self.places.iter().map(|(q, n)| format!("Q {q}: {n}")).collect();
+        let places: Vec<String> = self
+            .places
+            .iter()
+            .map(|(q, n)| format!("Q {q}: {n}"))
+            .collect();
         println!("most places in use: {}", places.join(", "));
-        println!("walked: {} states, {} of them ends", self.walk_states, self.walk_ends);
+        println!(
+            "walked: {} states, {} of them ends",
+            self.walk_states, self.walk_ends
+        );
         println!(
             "beside the histories: {} calls; {} sweeps, {} cut records recovered with every cut",
             self.beside, self.sweeps, self.recoveries

@@ -25,9 +25,16 @@ pub type Budget = Option<u16>;
 #[derive(Clone, Copy, PartialEq, Eq, Debug)]
 pub enum Event {
     /// A view is announced: all who enter it have these heads.
-    View { view: u32, heads: u16 },
+    View {
+        view: u32,
+        heads: u16,
+    },
     /// A head enters, and sends its state line.
-    Enter { head: u8, view: u32, budget: Budget },
+    Enter {
+        head: u8,
+        view: u32,
+        budget: Budget,
+    },
     /// A line sent before is heard as a line of kind `ear`.
     Deliver {
         line: Kind,
@@ -37,13 +44,28 @@ pub enum Event {
         to: u8,
     },
     /// A head decides, and sends its attempt line if it attempted.
-    Decide { head: u8, budget: Budget },
-    Form { head: u8, budget: Budget },
-    Recover { head: u8, budget: Budget },
+    Decide {
+        head: u8,
+        budget: Budget,
+    },
+    Form {
+        head: u8,
+        budget: Budget,
+    },
+    Recover {
+        head: u8,
+        budget: Budget,
+    },
     /// A head loses its session and no more.
-    Stop { head: u8 },
+    Stop {
+        head: u8,
+    },
     /// A line is written again, or out of turn, in so much room.
-    Write { kind: Kind, head: u8, room: u16 },
+    Write {
+        kind: Kind,
+        head: u8,
+        room: u16,
+    },
 }
 
 #[derive(Clone, PartialEq, Eq, Debug)]
@@ -96,6 +118,16 @@ impl Event {
         )
     }
 
+    /// The view it names.
+    pub fn view_mut(&mut self) -> Option<&mut u32> {
+        match self {
+            Event::View { view, .. } | Event::Enter { view, .. } | Event::Deliver { view, .. } => {
+                Some(view)
+            }
+            _ => None,
+        }
+    }
+
     /// What a line of text says first of this event; events of one verb may
     /// share a line.
     pub fn verb(&self) -> String {
@@ -106,15 +138,22 @@ impl Event {
             (Kind::Attempt, Kind::State) => "attempt-as-state",
         };
         match *self {
-            Event::View { view, .. } => format!("view {view}"),
+            Event::View { .. } => String::from("view"),
             Event::Enter { view, .. } => format!("enter {view}"),
-            Event::Deliver { line, ear, view, .. } => format!("{} {view}", heard(line, ear)),
+            Event::Deliver {
+                line, ear, view, ..
+            } => format!("{} {view}", heard(line, ear)),
             Event::Decide { .. } => String::from("decide"),
             Event::Form { .. } => String::from("form"),
             Event::Recover { .. } => String::from("recover"),
             Event::Stop { .. } => String::from("stop"),
-            Event::Write { kind: Kind::State, .. } => String::from("write-state"),
-            Event::Write { kind: Kind::Attempt, .. } => String::from("write-attempt"),
+            Event::Write {
+                kind: Kind::State, ..
+            } => String::from("write-state"),
+            Event::Write {
+                kind: Kind::Attempt,
+                ..
+            } => String::from("write-attempt"),
         }
     }
 }

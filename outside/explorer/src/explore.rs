@@ -36,7 +36,10 @@ struct Made {
 
 impl Made {
     fn found(self, failure: Failure) -> (History, Failure) {
-        let history = History { settings: self.world.settings, events: self.events };
+        let history = History {
+            settings: self.world.settings,
+            events: self.events,
+        };
         (history, failure)
     }
 
@@ -72,7 +75,12 @@ pub fn explore(runner: &mut Runner, options: &Options) -> Result<(), Box<Found>>
             _ => one_world(runner, rng, manner),
         };
         if let Err((history, failure)) = result {
-            return Err(Box::new(Found { manner: manner.name, world, history, failure }));
+            return Err(Box::new(Found {
+                manner: manner.name,
+                world,
+                history,
+                failure,
+            }));
         }
     }
     Ok(())
@@ -81,7 +89,9 @@ pub fn explore(runner: &mut Runner, options: &Options) -> Result<(), Box<Found>>
 /// The manner that lacks most of its share.
 fn next_manner(runner: &Runner, only: Option<&str>) -> Option<&'static Manner> {
     let made = |m: &Manner| runner.counts.steps.get(m.name).copied().unwrap_or(0) / m.share;
-    let open = MANNERS.iter().filter(|m| only.is_none_or(|name| name == m.name));
+    let open = MANNERS
+        .iter()
+        .filter(|m| only.is_none_or(|name| name == m.name));
     open.min_by_key(|m| made(m))
 }
 
@@ -89,7 +99,10 @@ fn one_world(runner: &mut Runner, mut rng: Rng, manner: &Manner) -> Result<(), (
     let settings = manner.settings(&mut rng);
     let count = rng.range(manner.events.0, manner.events.1);
     let mut generator = Generator::new(manner, rng, settings.heads);
-    let mut made = Made { world: World::new(settings), events: Vec::new() };
+    let mut made = Made {
+        world: World::new(settings),
+        events: Vec::new(),
+    };
     if let Err(failure) = runner.start(&mut made.world) {
         return Err(made.found(failure));
     }
@@ -115,7 +128,10 @@ fn sweep(
 ) -> Result<(), (History, Failure)> {
     runner.counts.sweeps += 1;
     for stores in 0.. {
-        let mut made = Made { world: from.world.clone(), events: from.events.clone() };
+        let mut made = Made {
+            world: from.world.clone(),
+            events: from.events.clone(),
+        };
         let cut = made.step(runner, manner, event.with_budget(Some(stores)));
         match cut {
             Ok(Some(Answer::Cut)) => {}
@@ -123,7 +139,10 @@ fn sweep(
             Err(failure) => return Err(made.found(failure)),
         }
         let mut generator = generator.fork();
-        let recover = Event::Recover { head: event.head().unwrap_or(0), budget: None };
+        let recover = Event::Recover {
+            head: event.head().unwrap_or(0),
+            budget: None,
+        };
         let mut next = recover;
         for _ in 0..generator.rng.range(5, 60) {
             if let Err(failure) = made.step(runner, manner, next) {

@@ -26,7 +26,14 @@ impl<'m> Generator<'m> {
         let n = heads as u64;
         let pace = rng.pick(&[2 * n + 2, n * n + 4, 2 * n * n + 4, 4 * n * n + 4]);
         let salt = rng.next();
-        Generator { rng, manner, queue: Vec::new(), rounds: Rounds::new(manner.cut), pace, salt }
+        Generator {
+            rng,
+            manner,
+            queue: Vec::new(),
+            rounds: Rounds::new(manner.cut),
+            pace,
+            salt,
+        }
     }
 
     /// One that goes its own way from here.
@@ -121,7 +128,13 @@ impl<'m> Generator<'m> {
             return None;
         }
         let from = self.rng.pick(&there);
-        Some(Event::Deliver { line: kind, ear: kind, view, from, to: head })
+        Some(Event::Deliver {
+            line: kind,
+            ear: kind,
+            view,
+            from,
+            to: head,
+        })
     }
 
     /// A view the head may enter, mostly the newest.
@@ -133,8 +146,10 @@ impl<'m> Generator<'m> {
         }
         if self.rng.one_in(4) {
             let later = world.views.range(entered as u32 + 1..);
-            let open: Vec<u32> =
-                later.filter(|(_, &m)| m >> head & 1 == 1).map(|(&v, _)| v).collect();
+            let open: Vec<u32> = later
+                .filter(|(_, &m)| m >> head & 1 == 1)
+                .map(|(&v, _)| v)
+                .collect();
             view = self.rng.pick(&open);
         }
         let budget = self.budget(1);
@@ -203,14 +218,30 @@ impl<'m> Generator<'m> {
         let other = self.rng.pick(&[Kind::State, Kind::Attempt]);
         let budget = self.budget(4);
         match self.rng.below(12) {
-            0..=4 => Event::Deliver { line: kind, ear: kind, view, from, to: head },
-            5 => Event::Deliver { line: kind, ear: other, view, from, to: head },
+            0..=4 => Event::Deliver {
+                line: kind,
+                ear: kind,
+                view,
+                from,
+                to: head,
+            },
+            5 => Event::Deliver {
+                line: kind,
+                ear: other,
+                view,
+                from,
+                to: head,
+            },
             6 => Event::Enter { head, view, budget },
             7 => Event::Decide { head, budget },
             8 => Event::Form { head, budget },
             9 => Event::Recover { head, budget },
             10 => Event::Stop { head },
-            _ => Event::Write { kind, head, room: self.rng.pick(&[0, 12, 13, 14, 418, 419, 430]) },
+            _ => Event::Write {
+                kind,
+                head,
+                room: self.rng.pick(&[0, 12, 13, 14, 418, 419, 430]),
+            },
         }
     }
 }

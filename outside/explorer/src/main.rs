@@ -11,7 +11,8 @@ use explorer::{text, walk};
 use std::process::ExitCode;
 use std::time::{Duration, Instant};
 
-const USAGE: &str = "usage: explorer SIDE [--seed N] [--steps N] [--seconds N] [--lockstep N] [--only MANNER]
+const USAGE: &str =
+    "usage: explorer SIDE [--seed N] [--steps N] [--seconds N] [--lockstep N] [--only MANNER]
        explorer SIDE --replay HISTORY [--lockstep N]
        explorer SIDE --walk HEADS,VIEWS [--lockstep N]
 SIDE is proved, second, or slip:NAME; MANNER is random, small, long, late, sweep or walk
@@ -31,11 +32,26 @@ struct Arguments {
 fn arguments() -> Result<Arguments, String> {
     let mut given = std::env::args().skip(1);
     let side = given.next().ok_or(USAGE)?;
-    let options = Options { seed: 1, steps: u64::MAX, time: None, only: None };
-    let mut all = Arguments { side, options, lockstep: 1, replay: None, walk: None };
+    let options = Options {
+        seed: 1,
+        steps: u64::MAX,
+        time: None,
+        only: None,
+    };
+    let mut all = Arguments {
+        side,
+        options,
+        lockstep: 1,
+        replay: None,
+        walk: None,
+    };
     while let Some(word) = given.next() {
         let value = given.next().ok_or(format!("{word} needs a value"))?;
-        let number = || value.parse::<u64>().map_err(|_| format!("{word}: not a number: {value}"));
+        let number = || {
+            value
+                .parse::<u64>()
+                .map_err(|_| format!("{word}: not a number: {value}"))
+        };
         match word.as_str() {
             "--seed" => all.options.seed = number()?,
             "--steps" => all.options.steps = number()?,
@@ -107,7 +123,12 @@ fn run_replay(arguments: &Arguments, runner: &mut Runner, history: &str) -> Resu
             Ok(())
         }
         Some((at, failure)) => {
-            println!("event {} of {}: {:?}", at + 1, history.events.len(), failure.fault);
+            println!(
+                "event {} of {}: {:?}",
+                at + 1,
+                history.events.len(),
+                failure.fault
+            );
             show(arguments, history, &failure)?;
             Err(failure.text)
         }
@@ -115,7 +136,9 @@ fn run_replay(arguments: &Arguments, runner: &mut Runner, history: &str) -> Resu
 }
 
 fn run_walk(arguments: &Arguments, runner: &mut Runner, sizes: &str) -> Result<(), String> {
-    let sizes = sizes.split_once(',').and_then(|(h, v)| Some((h.parse().ok()?, v.parse().ok()?)));
+    let sizes = sizes
+        .split_once(',')
+        .and_then(|(h, v)| Some((h.parse().ok()?, v.parse().ok()?)));
     let (heads, views) = sizes.ok_or("--walk needs HEADS,VIEWS")?;
     if !(1..=4).contains(&heads) || !(1..=4).contains(&views) {
         return Err(String::from("--walk: 1 to 4 heads and views"));
@@ -140,7 +163,10 @@ fn run_explore(arguments: &Arguments, runner: &mut Runner) -> Result<(), String>
     let seconds = begin.elapsed().as_secs_f64();
     runner.counts.print();
     let steps = runner.counts.steps();
-    println!("{steps} steps in {seconds:.1} s, {:.0} a second", steps as f64 / seconds);
+    println!(
+        "{steps} steps in {seconds:.1} s, {:.0} a second",
+        steps as f64 / seconds
+    );
     if let Err(found) = result {
         return failed(arguments, *found);
     }

@@ -170,15 +170,28 @@ impl Manner {
             _ => all & (rng.next() | rng.next()) as u16,
         };
         // A core head at least.
-        let w0 = if w0 == 0 { 1 << rng.below(heads as u64) } else { w0 };
+        let w0 = if w0 == 0 {
+            1 << rng.below(heads as u64)
+        } else {
+            w0
+        };
         let size = w0.count_ones() as u64;
         let q = match rng.below(3) {
             0 => rng.range(1, size),
             1 => rng.range(1, size.min(2)),
             _ => 1,
         } as u8;
-        let number = if self.late { u32::MAX - rng.below(6) as u32 } else { 0 };
-        Settings { w0, q, heads, number }
+        let number = if self.late {
+            u32::MAX - rng.below(6) as u32
+        } else {
+            0
+        };
+        Settings {
+            w0,
+            q,
+            heads,
+            number,
+        }
     }
 }
 

@@ -20,7 +20,10 @@ pub struct Rounds {
 
 impl Rounds {
     pub fn new(cut: u64) -> Rounds {
-        Rounds { cut, held: Vec::new() }
+        Rounds {
+            cut,
+            held: Vec::new(),
+        }
     }
 
     /// The events of the next round, the last first.
@@ -50,19 +53,37 @@ impl Rounds {
     fn recovery(&self, rng: &mut Rng, head: u8, budget: Budget, events: &mut Vec<Event>) {
         if budget.is_some() {
             if rng.one_in(3) {
-                events.push(Event::Recover { head, budget: Some(rng.below(4) as u16) });
+                events.push(Event::Recover {
+                    head,
+                    budget: Some(rng.below(4) as u16),
+                });
             }
             events.push(Event::Recover { head, budget: None });
         }
     }
 
     fn round(&self, rng: &mut Rng, view: u32, members: u16) -> Vec<Event> {
-        let mut events = vec![Event::View { view, heads: members }];
-        let entering = if rng.one_in(10) { some(rng, members) } else { members };
+        let mut events = vec![Event::View {
+            view,
+            heads: members,
+        }];
+        let entering = if rng.one_in(10) {
+            some(rng, members)
+        } else {
+            members
+        };
         for head in shuffled(rng, entering) {
-            events.push(Event::Enter { head, view, budget: None });
+            events.push(Event::Enter {
+                head,
+                view,
+                budget: None,
+            });
         }
-        let deciding = if rng.one_in(2) { members } else { some(rng, members) };
+        let deciding = if rng.one_in(2) {
+            members
+        } else {
+            some(rng, members)
+        };
         for head in shuffled(rng, deciding) {
             hear_all(view, Kind::State, members, head, &mut events);
             let budget = self.budget(rng, 6);
@@ -88,7 +109,13 @@ impl Rounds {
 
 fn hear_all(view: u32, kind: Kind, members: u16, to: u8, events: &mut Vec<Event>) {
     for from in heads_in(members & !(1 << to)) {
-        events.push(Event::Deliver { line: kind, ear: kind, view, from: from as u8, to });
+        events.push(Event::Deliver {
+            line: kind,
+            ear: kind,
+            view,
+            from: from as u8,
+            to,
+        });
     }
 }
 
@@ -115,7 +142,9 @@ fn likely_view(rng: &mut Rng, world: &World) -> u16 {
             continue;
         }
         members = picked;
-        let primaries = heads_in(members).into_iter().map(|h| world.heads[h].record[PRIMARY]);
+        let primaries = heads_in(members)
+            .into_iter()
+            .map(|h| world.heads[h].record[PRIMARY]);
         let highest = primaries.max_by_key(|word| word >> 16).unwrap_or(0);
         let settings = &world.settings;
         if sub_quorum(settings.w0, settings.q, highest as u16, members) {

@@ -4,6 +4,7 @@
 use crate::event::{Event, History};
 use crate::explore::replay;
 use crate::step::{Fault, Runner};
+use std::collections::BTreeSet;
 use std::time::{Duration, Instant};
 
 struct Shrinker<'r, 'a> {
@@ -15,7 +16,12 @@ struct Shrinker<'r, 'a> {
 
 /// The smallest history found in the time given.
 pub fn shrink(runner: &mut Runner, history: History, fault: Fault, time: Duration) -> History {
-    let mut shrinker = Shrinker { runner, fault, best: history, end: Instant::now() + time };
+    let mut shrinker = Shrinker {
+        runner,
+        fault,
+        best: history,
+        end: Instant::now() + time,
+    };
     loop {
         let before = shrinker.best.clone();
         shrinker.drop_chunks();
@@ -27,6 +33,7 @@ pub fn shrink(runner: &mut Runner, history: History, fault: Fault, time: Duratio
             break;
         }
     }
+    shrinker.renumber_views();
     shrinker.join();
     shrinker.best
 }
@@ -147,6 +154,20 @@ impl Shrinker<'_, '_> {
                 }
             }
         }
+    }
+
+    /// Views 1, 2, 3, ... in their order.
+    fn renumber_views(&mut self) {
+        let mut tried = self.best.clone();
+        let views: BTreeSet<u32> = tried
+            .events
+            .iter_mut()
+            .filter_map(|e| e.view_mut().copied())
+            .collect();
+        for view in tried.events.iter_mut().filter_map(|e| e.view_mut()) {
+            *view = views.range(..=*view).count() as u32;
+        }
+        self.takes(tried);
     }
 
     /// Moves events beside earlier ones of their verb, so that they share a

@@ -83,7 +83,10 @@ impl Plan {
     fn new(record: &[u64]) -> Plan {
         let mut now = [0; WORDS];
         now.copy_from_slice(record);
-        Plan { now, stores: Vec::new() }
+        Plan {
+            now,
+            stores: Vec::new(),
+        }
     }
 
     fn store(&mut self, word: usize, value: u64) {
@@ -194,8 +197,11 @@ impl Deciding<'_> {
 
     /// Does M pass for the highest primary and all listed above it?
     fn passes(&self, plan: &Plan) -> bool {
-        let mut said: Vec<(usize, u64)> =
-            self.others.iter().map(|&(q, held)| (q, held.last_primary)).collect();
+        let mut said: Vec<(usize, u64)> = self
+            .others
+            .iter()
+            .map(|&(q, held)| (q, held.last_primary))
+            .collect();
         said.push((self.own, plan.now[PRIMARY]));
         said.sort();
         let mut primary = 0;
@@ -205,9 +211,17 @@ impl Deciding<'_> {
             }
         }
         let own = plan.used().into_iter().map(|i| plan.now[PLACE + i]);
-        let theirs = self.others.iter().flat_map(|(_, h)| &h.places[..h.count as usize]);
-        let listed = own.chain(theirs.copied()).filter(|&s| number(s) > number(primary));
-        [primary].into_iter().chain(listed).all(|s| self.quorum(plan.now[0], heads(s)))
+        let theirs = self
+            .others
+            .iter()
+            .flat_map(|(_, h)| &h.places[..h.count as usize]);
+        let listed = own
+            .chain(theirs.copied())
+            .filter(|&s| number(s) > number(primary));
+        [primary]
+            .into_iter()
+            .chain(listed)
+            .all(|s| self.quorum(plan.now[0], heads(s)))
     }
 
     fn quorum(&self, group: u64, s: u16) -> bool {
@@ -272,7 +286,10 @@ fn recovery(slip: Slip, record: &[u64]) -> Plan {
         }
     }
     if slip != Slip::RecoversWithoutStep4 {
-        for i in (0..16).filter(|&i| plan.now[PLACE + i] == 0).collect::<Vec<_>>() {
+        for i in (0..16)
+            .filter(|&i| plan.now[PLACE + i] == 0)
+            .collect::<Vec<_>>()
+        {
             plan.change(MARKS + i, 0);
         }
     }

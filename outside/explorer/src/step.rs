@@ -93,7 +93,10 @@ impl<'a> Runner<'a> {
 
     /// Makes an event; `None` if it has nothing to act on.
     pub fn step(&mut self, world: &mut World, event: &Event) -> Result<Option<Answer>, Failure> {
-        if event.head().is_some_and(|h| h as usize >= world.heads.len()) {
+        if event
+            .head()
+            .is_some_and(|h| h as usize >= world.heads.len())
+        {
             return Ok(None);
         }
         let budget = stores_of(event.budget());
@@ -103,7 +106,13 @@ impl<'a> Runner<'a> {
                 Ok(None)
             }
             Event::Enter { head, view, .. } => self.enter(world, head, view, budget),
-            Event::Deliver { line, ear, view, from, to } => {
+            Event::Deliver {
+                line,
+                ear,
+                view,
+                from,
+                to,
+            } => {
                 let Some(line) = world.line(view, line, from) else {
                     return Ok(None);
                 };
@@ -144,7 +153,9 @@ impl<'a> Runner<'a> {
         let Some(&members) = world.views.get(&view) else {
             return Ok(None);
         };
-        let answer = self.call(world, head, &Call::Enter { view, members }, budget)?.answer;
+        let answer = self
+            .call(world, head, &Call::Enter { view, members }, budget)?
+            .answer;
         if answer == Answer::Entered {
             self.send(world, head, Kind::State)?;
         }
@@ -199,7 +210,10 @@ impl<'a> Runner<'a> {
         let view = world.heads[head as usize].session.view;
         let line: Rc<[u8]> = Rc::from(&output[..length]);
         if output[length..].iter().any(|&b| b != UNWRITTEN) {
-            return failure(Fault::Line, String::from("output past the line was changed"));
+            return failure(
+                Fault::Line,
+                String::from("output past the line was changed"),
+            );
         }
         let before = world.sent.insert((view, kind, head), line.clone());
         if before.is_some_and(|before| before != line) {
@@ -221,7 +235,10 @@ impl<'a> Runner<'a> {
         let head = &mut world.heads[head as usize];
         let before = head.clone();
         let made = make(self.side, &mut head.record, &mut head.session, call, budget);
-        let ended = Ended { answer: made.0, output: made.1 };
+        let ended = Ended {
+            answer: made.0,
+            output: made.1,
+        };
         self.counts.answer(call.name(), ended.answer);
         if self.compares_now() {
             self.compare(&before, call, budget, head, &ended)?;
@@ -254,10 +271,19 @@ impl<'a> Runner<'a> {
     ) -> Result<(), Failure> {
         self.counts.compared += 1;
         let mut ours = before.clone();
-        let (answer, output) =
-            make(&mut Second, &mut ours.record, &mut ours.session, call, budget);
+        let (answer, output) = make(
+            &mut Second,
+            &mut ours.record,
+            &mut ours.session,
+            call,
+            budget,
+        );
         let what = if answer != ended.answer {
-            format!("second answers {answer:?}, {} {:?}", self.side.name(), ended.answer)
+            format!(
+                "second answers {answer:?}, {} {:?}",
+                self.side.name(),
+                ended.answer
+            )
         } else if ours.record != after.record {
             let words = (0..ours.record.len()).filter(|&w| ours.record[w] != after.record[w]);
             let all: Vec<String> = words
@@ -283,7 +309,10 @@ impl<'a> Runner<'a> {
         budget: u64,
         head: &mut Head,
     ) -> Result<(), Failure> {
-        let wrong = |text: String| Failure { fault: Fault::Recovery, text };
+        let wrong = |text: String| Failure {
+            fault: Fault::Recovery,
+            text,
+        };
         if head.session != HeadSession::none() {
             return Err(wrong(format!("{} was cut and left a session", call.name())));
         }
@@ -292,7 +321,10 @@ impl<'a> Runner<'a> {
         let all: Vec<Store> = stores(call, &records).map_err(wrong)?;
         let made = budget as usize;
         if made >= all.len() || records[made] != head.record {
-            let text = format!("{} cut after {made} stores is not the same again", call.name());
+            let text = format!(
+                "{} cut after {made} stores is not the same again",
+                call.name()
+            );
             return Err(wrong(text));
         }
         self.counts.cut(call.name(), all[made].name, made);
@@ -302,16 +334,17 @@ impl<'a> Runner<'a> {
             _ => after_done_changes(&records, &all, made),
         };
         head.cut = Some(done);
-        self.check_recovery(head).map_err(|text| {
-            wrong(format!("{} cut after {made} stores: {text}", call.name()))
-        })
+        self.check_recovery(head)
+            .map_err(|text| wrong(format!("{} cut after {made} stores: {text}", call.name())))
     }
 
     /// Recovery of a cut record, uncut and cut at every position.
     fn check_recovery(&mut self, head: &Head) -> Result<(), String> {
         let done = head.cut.unwrap_or(head.record);
         if !self.side.whole(&done) {
-            return Err(String::from("the record after the done changes is not whole"));
+            return Err(String::from(
+                "the record after the done changes is not whole",
+            ));
         }
         self.counts.recoveries += 1;
         for budget in (0..).map(|k| if k > 60 { ALL } else { k }) {
@@ -364,10 +397,16 @@ fn check_kept(before: &Head, call: &Call, after: &Head, ended: &Ended) -> Result
         Call::Enter { .. } | Call::Decide | Call::Form | Call::Recover
     );
     if (refused || !stores) && before.record != after.record {
-        return failure(Fault::NotKept, format!("{} changed the record", call.name()));
+        return failure(
+            Fault::NotKept,
+            format!("{} changed the record", call.name()),
+        );
     }
     if refused && before.session != after.session {
-        return failure(Fault::NotKept, format!("a refused {} changed the session", call.name()));
+        return failure(
+            Fault::NotKept,
+            format!("a refused {} changed the session", call.name()),
+        );
     }
     if refused && ended.output.iter().any(|&b| b != UNWRITTEN) {
         return failure(Fault::NotKept, format!("a refused {} wrote", call.name()));

@@ -1,13 +1,15 @@
 //! Histories as text, a few events a line: a verb, the view where there is
 //! one, then an item for each event.
 //!
-//!     group W0 Q HEADS NUMBER
-//!     view V HEADS
-//!     enter V head[:stores] ...
-//!     state V to<from ...          also attempt, state-as-attempt, attempt-as-state
-//!     decide head[:stores] ...     also form, recover
-//!     stop head ...
-//!     write-state head:room ...    also write-attempt
+//! ```text
+//! group W0 Q HEADS NUMBER
+//! view V:HEADS ...
+//! enter V head[:stores] ...
+//! state V to<from ...          also attempt, state-as-attempt, attempt-as-state
+//! decide head[:stores] ...     also form, recover
+//! stop head ...
+//! write-state head:room ...    also write-attempt
+//! ```
 //!
 //! Sets of heads are in hexadecimal, the rest is decimal; `;` ends a line too.
 
@@ -15,7 +17,7 @@ use crate::event::{Budget, Event, History, Kind, Settings};
 
 fn item(event: &Event) -> String {
     match *event {
-        Event::View { heads, .. } => format!("{heads:04x}"),
+        Event::View { view, heads } => format!("{view}:{heads:04x}"),
         Event::Deliver { from, to, .. } => format!("{to}<{from}"),
         Event::Stop { head } => format!("{head}"),
         Event::Write { head, room, .. } => format!("{head}:{room}"),
@@ -32,11 +34,14 @@ fn item(event: &Event) -> String {
 /// The lines of a history; events of one verb that follow each other share one.
 pub fn lines(history: &History) -> Vec<String> {
     let s = &history.settings;
-    let mut all = vec![format!("group {:04x} {} {} {}", s.w0, s.q, s.heads, s.number)];
+    let mut all = vec![format!(
+        "group {:04x} {} {} {}",
+        s.w0, s.q, s.heads, s.number
+    )];
     let mut last = String::new();
     for event in &history.events {
         let verb = event.verb();
-        if verb == last && !matches!(event, Event::View { .. }) {
+        if verb == last {
             let line = all.last_mut().expect("the group's line is there");
             *line += &format!(" {}", item(event));
         } else {
@@ -74,10 +79,20 @@ fn delivery(word: &str, view: u32, line: Kind, ear: Kind) -> Result<Event, Strin
     })
 }
 
+fn announced(word: &str) -> Result<Event, String> {
+    let (view, heads) = word
+        .split_once(':')
+        .ok_or(format!("not view:heads: {word}"))?;
+    Ok(Event::View {
+        view: number(view)?,
+        heads: set(heads)?,
+    })
+}
+
 fn parsed(verb: &str, view: u32, word: &str) -> Result<Event, String> {
     let (state, attempt) = (Kind::State, Kind::Attempt);
     match verb {
-        "view" => return Ok(Event::View { view, heads: set(word)? }),
+        "view" => return announced(word),
         "state" => return delivery(word, view, state, state),
         "attempt" => return delivery(word, view, attempt, attempt),
         "state-as-attempt" => return delivery(word, view, state, attempt),
@@ -92,15 +107,25 @@ fn parsed(verb: &str, view: u32, word: &str) -> Result<Event, String> {
         "form" => Ok(Event::Form { head, budget }),
         "recover" => Ok(Event::Recover { head, budget }),
         "stop" => Ok(Event::Stop { head }),
-        "write-state" => Ok(Event::Write { kind: state, head, room }),
-        "write-attempt" => Ok(Event::Write { kind: attempt, head, room }),
+        "write-state" => Ok(Event::Write {
+            kind: state,
+            head,
+            room,
+        }),
+        "write-attempt" => Ok(Event::Write {
+            kind: attempt,
+            head,
+            room,
+        }),
         _ => Err(format!("no event is called {verb}")),
     }
 }
 
 fn group(words: &[&str]) -> Result<Settings, String> {
     let [w0, q, heads, first] = words else {
-        return Err(String::from("group needs W0, Q, the number of heads and word 2"));
+        return Err(String::from(
+            "group needs W0, Q, the number of heads and word 2",
+        ));
     };
     let settings = Settings {
         w0: set(w0)?,
@@ -128,7 +153,13 @@ pub fn read(text: &str) -> Result<History, String> {
             continue;
         }
         let mut view = 0;
-        let of_view = ["view", "enter", "state", "attempt", "state-as-attempt", "attempt-as-state"];
+        let of_view = [
+            "enter",
+            "state",
+            "attempt",
+            "state-as-attempt",
+            "attempt-as-state",
+        ];
         if of_view.contains(&verb) {
             let (first, items) = rest.split_first().ok_or(format!("{verb} needs a view"))?;
             view = number(first)?;

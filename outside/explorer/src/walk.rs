@@ -35,8 +35,9 @@ struct Walk<'r, 'a> {
 pub fn random(runner: &mut Runner, rng: &mut Rng, manner: &Manner) -> Result<(), Failed> {
     let settings = manner.settings(rng);
     let all = (1u64 << settings.heads) - 1;
-    let views: Vec<u16> =
-        (0..rng.range(2, 4)).map(|_| rng.range(1, all) as u16).collect();
+    let views: Vec<u16> = (0..rng.range(2, 4))
+        .map(|_| rng.range(1, all) as u16)
+        .collect();
     world(runner, settings, &views, STATES).map(|_| ())
 }
 
@@ -53,7 +54,12 @@ pub fn world(
         .zip(1..)
         .map(|(&heads, view)| Event::View { view, heads })
         .collect();
-    let mut walk = Walk { runner, seen: HashSet::new(), most, path: Vec::new() };
+    let mut walk = Walk {
+        runner,
+        seen: HashSet::new(),
+        most,
+        path: Vec::new(),
+    };
     if let Err(failure) = walk.runner.start(&mut world) {
         return Err(walk.failed(settings, failure));
     }
@@ -70,7 +76,12 @@ pub fn all(runner: &mut Runner, heads: usize, views: usize) -> Result<(u64, u64)
     let (mut walked, mut whole) = (0, 0);
     for w0 in 1..=sets as u16 {
         for q in 1..=w0.count_ones() as u8 {
-            let settings = Settings { w0, q, heads, number: 0 };
+            let settings = Settings {
+                w0,
+                q,
+                heads,
+                number: 0,
+            };
             for code in 0..sets.pow(views as u32) {
                 let view = |i: u32| (code / sets.pow(i) % sets + 1) as u16;
                 let list: Vec<u16> = (0..views as u32).map(view).collect();
@@ -85,7 +96,13 @@ pub fn all(runner: &mut Runner, heads: usize, views: usize) -> Result<(u64, u64)
 
 impl Walk<'_, '_> {
     fn failed(&self, settings: Settings, failure: Failure) -> Failed {
-        (History { settings, events: self.path.clone() }, failure)
+        (
+            History {
+                settings,
+                events: self.path.clone(),
+            },
+            failure,
+        )
     }
 
     fn step(&mut self, world: &mut World, event: Event) -> Result<Option<Answer>, Failed> {
@@ -110,9 +127,20 @@ impl Walk<'_, '_> {
         let mut end = true;
         for head in 0..world.heads.len() as u8 {
             let entered = world.heads[head as usize].record[VIEW] as u32;
-            for (&view, _) in world.views.range(entered + 1..).filter(|(_, &m)| m >> head & 1 == 1)
+            for (&view, _) in world
+                .views
+                .range(entered + 1..)
+                .filter(|(_, &m)| m >> head & 1 == 1)
             {
-                self.every_cut(world, &[], Event::Enter { head, view, budget: None })?;
+                self.every_cut(
+                    world,
+                    &[],
+                    Event::Enter {
+                        head,
+                        view,
+                        budget: None,
+                    },
+                )?;
                 end = false;
             }
             if let Some((heard, last)) = ready(world, head) {
@@ -157,11 +185,19 @@ fn ready(world: &World, head: u8) -> Option<(Vec<Event>, Event)> {
         Stage::None | Stage::Closed | Stage::Formed => return None,
     };
     let view = session.view;
-    let others = heads_in(session.members & !(1 << head)).into_iter().map(|q| q as u8);
+    let others = heads_in(session.members & !(1 << head))
+        .into_iter()
+        .map(|q| q as u8);
     let mut heard = Vec::new();
     for from in others {
         world.line(view, kind, from)?;
-        heard.push(Event::Deliver { line: kind, ear: kind, view, from, to: head });
+        heard.push(Event::Deliver {
+            line: kind,
+            ear: kind,
+            view,
+            from,
+            to: head,
+        });
     }
     Some((heard, last))
 }

@@ -32,7 +32,10 @@ impl Head {
     }
 
     pub fn places_in_use(&self) -> usize {
-        self.record[PLACE..PLACE + 16].iter().filter(|&&w| w != 0).count()
+        self.record[PLACE..PLACE + 16]
+            .iter()
+            .filter(|&&w| w != 0)
+            .count()
     }
 }
 
@@ -73,7 +76,11 @@ impl World {
     /// The newest view announced that has this head in it.
     pub fn newest_view(&self, head: u8) -> Option<u32> {
         let has = |heads: u16| heads >> head & 1 == 1;
-        self.views.iter().rev().find(|(_, &heads)| has(heads)).map(|(&view, _)| view)
+        self.views
+            .iter()
+            .rev()
+            .find(|(_, &heads)| has(heads))
+            .map(|(&view, _)| view)
     }
 
     /// Adds a formed session: numbers differ, and in order of number each
