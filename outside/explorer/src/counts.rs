@@ -4,6 +4,7 @@ use crate::call::answer_name;
 use crate::cuts::{NEVER, POSITIONS};
 use second::answers::Answer;
 use std::collections::BTreeMap;
+use std::fmt::Display;
 
 #[derive(Default)]
 pub struct Counts {
@@ -113,6 +114,9 @@ const ANSWERS: [(&str, &[&str]); 9] = [
     ),
 ];
 
+/// Cuts after 0 and up to so many stores should be met. Longer calls are rare.
+const CUT_AFTER: [(&str, usize); 4] = [("enter", 0), ("decide", 9), ("form", 12), ("recover", 3)];
+
 fn more<K: Ord>(map: &mut BTreeMap<K, u64>, key: K) {
     *map.entry(key).or_default() += 1;
 }
@@ -156,6 +160,13 @@ impl Counts {
                 }
             }
         }
+        for (call, most) in CUT_AFTER {
+            for made in 0..=most {
+                if !self.cut_after.contains_key(&(call, made)) {
+                    all.push(format!("{call} cut after {made} stores"));
+                }
+            }
+        }
         all
     }
 
@@ -170,37 +181,19 @@ impl Counts {
     }
 
     pub fn print(&self) {
-        let joined = |map: &BTreeMap<&str, u64>| {
-            let all: Vec<String> = map.iter().map(|(name, n)| format!("{name} {n}")).collect();
-            all.join(", ")
-        };
-        println!("worlds: {}", joined(&self.worlds));
-        println!("steps: {}", joined(&self.steps));
+        println!("worlds: {}", joined(&self.worlds, " "));
+        println!("steps: {}", joined(&self.steps, " "));
         println!("calls and answers:");
         for (call, _) in ANSWERS {
-            let of_call = self.answers.iter().filter(|((name, _), _)| *name == call);
-            let all: Vec<String> = of_call
-                .map(|((_, name), n)| format!("{name} {n}"))
-                .collect();
-            println!("  {call}: {}", all.join(", "));
+            println!("  {call}: {}", joined(&of_call(&self.answers, call), " "));
         }
-        let refusals: Vec<String> = self
-            .refusals()
-            .iter()
-            .map(|(number, n)| format!("{number}: {n}"))
-            .collect();
-        println!("refusals by number: {}", refusals.join(", "));
+        println!("refusals by number: {}", joined(&self.refusals(), ": "));
         self.print_cuts();
         println!(
-            "formed: {} form calls stored word 3, {} different sessions, longest chain {}",
+            "formed: {} form calls stored word 3, {} sessions each once in its history, longest chain {}",
             self.formed, self.distinct_formed, self.longest_chain
         );
-        let places: Vec<String> = self
-            .places
-            .iter()
-            .map(|(q, n)| format!("Q {q}: {n}"))
-            .collect();
-        println!("most places in use: {}", places.join(", "));
+        println!("most places in use, by Q: {}", joined(&self.places, ": "));
         println!(
             "walked: {} states, {} of them ends",
             self.walk_states, self.walk_ends
@@ -215,12 +208,28 @@ impl Counts {
     fn print_cuts(&self) {
         println!("cuts by the store not made, and by the number of stores made:");
         for (call, names) in POSITIONS {
-            let count = |name: &&str| self.cuts.get(&(call, *name)).copied().unwrap_or(0);
+            let cuts = of_call(&self.cuts, call);
+            let count = |name: &&str| cuts.get(name).copied().unwrap_or(0);
             let all: Vec<String> = names.iter().map(|n| format!("{n} {}", count(n))).collect();
             println!("  {call}: {}", all.join(", "));
-            let of_call = self.cut_after.iter().filter(|((name, _), _)| *name == call);
-            let all: Vec<String> = of_call.map(|((_, k), n)| format!("{k}: {n}")).collect();
-            println!("    after {}", all.join(", "));
+            println!(
+                "    after {}",
+                joined(&of_call(&self.cut_after, call), ": ")
+            );
         }
     }
+}
+
+/// The counts of one call.
+fn of_call<K: Ord + Copy>(map: &BTreeMap<(&'static str, K), u64>, call: &str) -> BTreeMap<K, u64> {
+    let ours = map.iter().filter(|((name, _), _)| *name == call);
+    ours.map(|(&(_, key), &n)| (key, n)).collect()
+}
+
+fn joined<K: Display, N: Display>(map: &BTreeMap<K, N>, between: &str) -> String {
+    let all: Vec<String> = map
+        .iter()
+        .map(|(key, n)| format!("{key}{between}{n}"))
+        .collect();
+    all.join(", ")
 }

@@ -30,7 +30,7 @@ impl<'m> Generator<'m> {
             rng,
             manner,
             queue: Vec::new(),
-            rounds: Rounds::new(manner.cut),
+            rounds: Rounds::new(manner.cut, manner.pile),
             pace,
             salt,
         }
@@ -42,7 +42,7 @@ impl<'m> Generator<'m> {
             rng: Rng::new(self.rng.next()),
             manner: self.manner,
             queue: self.queue.clone(),
-            rounds: Rounds::new(self.manner.cut),
+            rounds: Rounds::new(self.manner.cut, self.manner.pile),
             pace: self.pace,
             salt: self.rng.next(),
         }
@@ -81,10 +81,6 @@ impl<'m> Generator<'m> {
             of[self.rng.index(parts)] |= 1 << h;
         }
         match self.rng.below(6) {
-            _ if self.manner.pile => {
-                let other = 1 << self.rng.index(n);
-                of = vec![world.settings.w0 | other | all & self.rng.pick(&[0, other << 1])];
-            }
             0 => of = vec![all],
             1 => of = vec![all & self.rng.next() as u16],
             _ => {}

@@ -20,14 +20,13 @@ pub struct Manner {
     pub sweep: u64,
     /// The session numbers begin near the end.
     pub late: bool,
-    /// A small core is in every view with few others, so that attempts pass
-    /// whatever was attempted before, and pile up.
-    pub pile: bool,
     /// Events come by rounds.
     pub rounds: bool,
+    /// Attempts pile up (only by rounds).
+    pub pile: bool,
 }
 
-pub const MANNERS: [Manner; 9] = [
+pub const MANNERS: [Manner; 10] = [
     Manner {
         name: "random",
         share: 4,
@@ -99,12 +98,12 @@ pub const MANNERS: [Manner; 9] = [
         pile: false,
         rounds: false,
     },
-    // Rounds without a cut, and with cuts.
+    // Rounds without a cut, with cuts, and of many heads for long calls.
     Manner {
         name: "rounds",
         share: 4,
-        heads: (3, 5),
-        events: (60, 160),
+        heads: (3, 4),
+        events: (40, 100),
         cut: 0,
         noise: 0,
         lost_states: &[],
@@ -117,8 +116,8 @@ pub const MANNERS: [Manner; 9] = [
     Manner {
         name: "cut rounds",
         share: 4,
-        heads: (3, 6),
-        events: (60, 200),
+        heads: (3, 5),
+        events: (50, 140),
         cut: 6,
         noise: 0,
         lost_states: &[],
@@ -129,18 +128,32 @@ pub const MANNERS: [Manner; 9] = [
         rounds: true,
     },
     Manner {
+        name: "wide rounds",
+        share: 3,
+        heads: (8, 16),
+        events: (300, 1500),
+        cut: 3,
+        noise: 0,
+        lost_states: &[],
+        lost_attempts: &[],
+        sweep: 50,
+        late: false,
+        pile: false,
+        rounds: true,
+    },
+    Manner {
         name: "pile",
-        share: 2,
+        share: 3,
         heads: (6, 16),
-        events: (100, 1500),
-        cut: 15,
-        noise: 30,
-        lost_states: &[0],
-        lost_attempts: &[70, 100, 100],
+        events: (400, 1600),
+        cut: 20,
+        noise: 0,
+        lost_states: &[],
+        lost_attempts: &[],
         sweep: 0,
         late: false,
         pile: true,
-        rounds: false,
+        rounds: true,
     },
     // Walked without chance: only the heads are taken from here.
     Manner {
@@ -164,7 +177,7 @@ impl Manner {
         let heads = rng.range(self.heads.0, self.heads.1) as usize;
         let all = ((1u32 << heads) - 1) as u16;
         let w0 = match rng.below(3) {
-            _ if self.pile => all & 1 << rng.below(4) & 0xf | all & 1 << rng.below(8),
+            _ if self.pile => (1 << rng.pick(&[0, 1, 1, 2, 3, 5, 8])) - 1 & all | 1,
             0 => all,
             1 => all & rng.next() as u16,
             _ => all & (rng.next() | rng.next()) as u16,
@@ -177,6 +190,7 @@ impl Manner {
         };
         let size = w0.count_ones() as u64;
         let q = match rng.below(3) {
+            _ if self.pile => size,
             0 => rng.range(1, size),
             1 => rng.range(1, size.min(2)),
             _ => 1,

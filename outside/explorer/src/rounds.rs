@@ -13,22 +13,29 @@ use second::record::PRIMARY;
 /// How a world goes by rounds.
 pub struct Rounds {
     /// One storing call in so many is given few stores; 0 for none.
-    pub cut: u64,
+    cut: u64,
+    /// Views are the core and one other, and few form, so that attempts pass
+    /// whatever was attempted before, and pile up.
+    pile: bool,
     /// Events of an earlier round that come after the next one.
     held: Vec<Event>,
 }
 
 impl Rounds {
-    pub fn new(cut: u64) -> Rounds {
+    pub fn new(cut: u64, pile: bool) -> Rounds {
         Rounds {
             cut,
+            pile,
             held: Vec::new(),
         }
     }
 
     /// The events of the next round, the last first.
     pub fn next(&mut self, rng: &mut Rng, world: &World) -> Vec<Event> {
-        let members = likely_view(rng, world);
+        let members = match self.pile {
+            true => world.settings.w0 | 1 << rng.index(world.heads.len()),
+            false => likely_view(rng, world),
+        };
         let view = world.views.keys().next_back().map_or(1, |v| v + 1);
         let mut events = self.round(rng, view, members);
         let late = std::mem::take(&mut self.held);
@@ -41,8 +48,8 @@ impl Rounds {
         events
     }
 
-    fn budget(&self, rng: &mut Rng, may_need: u64) -> Budget {
-        if self.cut != 0 && rng.one_in(self.cut) {
+    fn budget(&self, rng: &mut Rng, one_in: u64, may_need: u64) -> Budget {
+        if self.cut != 0 && rng.one_in(one_in.max(1)) {
             Some(rng.below(may_need) as u16)
         } else {
             None
@@ -51,15 +58,14 @@ impl Rounds {
 
     /// Recovery after a call that may have been cut.
     fn recovery(&self, rng: &mut Rng, head: u8, budget: Budget, events: &mut Vec<Event>) {
-        if budget.is_some() {
-            if rng.one_in(3) {
-                events.push(Event::Recover {
-                    head,
-                    budget: Some(rng.below(4) as u16),
-                });
-            }
-            events.push(Event::Recover { head, budget: None });
+        if budget.is_none() {
+            return;
         }
+        if rng.one_in(3) {
+            let budget = Some(rng.pick(&[0, 1, 2, 3, 5, 8, 11, 14]));
+            events.push(Event::Recover { head, budget });
+        }
+        events.push(Event::Recover { head, budget: None });
     }
 
     fn round(&self, rng: &mut Rng, view: u32, members: u16) -> Vec<Event> {
@@ -67,10 +73,9 @@ impl Rounds {
             view,
             heads: members,
         }];
-        let entering = if rng.one_in(10) {
-            some(rng, members)
-        } else {
-            members
+        let entering = match rng.one_in(10) {
+            true => members & rng.next() as u16,
+            false => members,
         };
         for head in shuffled(rng, entering) {
             events.push(Event::Enter {
@@ -79,31 +84,51 @@ impl Rounds {
                 budget: None,
             });
         }
-        let deciding = if rng.one_in(2) {
-            members
-        } else {
-            some(rng, members)
+        let deciding = match rng.below(6) {
+            0..=2 => members,
+            3 => members & rng.next() as u16,
+            _ => one(rng, members),
         };
-        for head in shuffled(rng, deciding) {
-            hear_all(view, Kind::State, members, head, &mut events);
-            let budget = self.budget(rng, 6);
-            events.push(Event::Decide { head, budget });
-            self.recovery(rng, head, budget, &mut events);
+        self.decisions(rng, view, members, deciding, &mut events);
+        if deciding == members && (!self.pile || rng.one_in(20)) {
+            self.forms(rng, view, members, &mut events);
         }
-        let forming = match rng.below(4) {
-            _ if deciding != members => 0,
+        events
+    }
+
+    fn decisions(
+        &self,
+        rng: &mut Rng,
+        view: u32,
+        members: u16,
+        deciding: u16,
+        events: &mut Vec<Event>,
+    ) {
+        let size = members.count_ones() as u64;
+        for head in shuffled(rng, deciding) {
+            hear_all(view, Kind::State, members, head, events);
+            let may_need = rng.pick(&[3, 6, 8 + size]);
+            // One cut decision keeps the others from forming.
+            let budget = self.budget(rng, self.cut * size / 4, may_need);
+            events.push(Event::Decide { head, budget });
+            self.recovery(rng, head, budget, events);
+        }
+    }
+
+    fn forms(&self, rng: &mut Rng, view: u32, members: u16, events: &mut Vec<Event>) {
+        let size = members.count_ones() as u64;
+        let forming = match rng.below(6) {
             0 => members,
-            1 => some(rng, members),
-            2 => 1 << shuffled(rng, members)[0],
+            1 => members & rng.next() as u16,
+            2..=4 => one(rng, members),
             _ => 0,
         };
         for head in shuffled(rng, forming) {
-            hear_all(view, Kind::Attempt, members, head, &mut events);
-            let budget = self.budget(rng, 6);
+            hear_all(view, Kind::Attempt, members, head, events);
+            let budget = self.budget(rng, self.cut, 4 + size);
             events.push(Event::Form { head, budget });
-            self.recovery(rng, head, budget, &mut events);
+            self.recovery(rng, head, budget, events);
         }
-        events
     }
 }
 
@@ -119,8 +144,9 @@ fn hear_all(view: u32, kind: Kind, members: u16, to: u8, events: &mut Vec<Event>
     }
 }
 
-fn some(rng: &mut Rng, set: u16) -> u16 {
-    set & rng.next() as u16
+fn one(rng: &mut Rng, set: u16) -> u16 {
+    let heads = heads_in(set);
+    1 << heads[rng.index(heads.len())]
 }
 
 fn shuffled(rng: &mut Rng, set: u16) -> Vec<u8> {
@@ -137,7 +163,10 @@ fn likely_view(rng: &mut Rng, world: &World) -> u16 {
     let all = ((1u32 << world.heads.len()) - 1) as u16;
     let mut members = all;
     for _ in 0..8 {
-        let picked = all & rng.next() as u16;
+        let picked = match rng.below(3) {
+            0 if world.heads.len() > 6 => all & (rng.next() | rng.next() | rng.next()) as u16,
+            _ => all & rng.next() as u16,
+        };
         if picked == 0 {
             continue;
         }

@@ -112,23 +112,11 @@ impl<'a> Runner<'a> {
                 view,
                 from,
                 to,
-            } => {
-                let Some(line) = world.line(view, line, from) else {
-                    return Ok(None);
-                };
-                let call = match ear {
-                    Kind::State => Call::HearState { line: &line },
-                    Kind::Attempt => Call::HearAttempt { line: &line },
-                };
-                Ok(Some(self.call(world, to, &call, ALL)?.answer))
-            }
-            Event::Decide { head, .. } => {
-                let answer = self.call(world, head, &Call::Decide, budget)?.answer;
-                if answer == Answer::Attempted {
-                    self.send(world, head, Kind::Attempt)?;
-                }
-                Ok(Some(answer))
-            }
+            } => match world.line(view, line, from) {
+                None => Ok(None),
+                Some(line) => Ok(Some(self.hear(world, to, ear, &line)?)),
+            },
+            Event::Decide { head, .. } => Ok(Some(self.decide(world, head, budget)?)),
             Event::Form { head, .. } => Ok(Some(self.form(world, head, budget)?)),
             Event::Recover { head, .. } => {
                 Ok(Some(self.call(world, head, &Call::Recover, budget)?.answer))
@@ -160,6 +148,28 @@ impl<'a> Runner<'a> {
             self.send(world, head, Kind::State)?;
         }
         Ok(Some(answer))
+    }
+
+    fn hear(
+        &mut self,
+        world: &mut World,
+        head: u8,
+        ear: Kind,
+        line: &[u8],
+    ) -> Result<Answer, Failure> {
+        let call = match ear {
+            Kind::State => Call::HearState { line },
+            Kind::Attempt => Call::HearAttempt { line },
+        };
+        Ok(self.call(world, head, &call, ALL)?.answer)
+    }
+
+    fn decide(&mut self, world: &mut World, head: u8, budget: u64) -> Result<Answer, Failure> {
+        let answer = self.call(world, head, &Call::Decide, budget)?.answer;
+        if answer == Answer::Attempted {
+            self.send(world, head, Kind::Attempt)?;
+        }
+        Ok(answer)
     }
 
     /// "A session is formed when a form call has stored word 3."
