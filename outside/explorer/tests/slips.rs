@@ -101,18 +101,39 @@ fn half_is_not_enough_for_the_chain() {
 
 #[test]
 fn keeping_only_the_latest_breaks_the_chain() {
-    breaks_the_chain(Slip::KeepsLatest, "rounds", 1_500_000, 20);
+    breaks_the_chain(Slip::KeepsLatest, "rounds", 400_000, 20);
 }
 
 #[test]
 fn dropping_after_a_later_attempt_breaks_the_chain() {
-    breaks_the_chain(Slip::DropsAfterLater, "rounds", 1_500_000, 20);
+    breaks_the_chain(Slip::DropsAfterLater, "rounds", 400_000, 20);
 }
 
-/// It breaks only with a cut between marking and adoption.
+/// It breaks only with a cut between marking and adoption (head 0 in view 3).
+/// The search seldom meets it, so a history that it once found is kept.
 #[test]
-fn marking_at_or_below_breaks_the_chain_with_cuts() {
-    breaks_the_chain(Slip::MarksAtOrBelow, "cut rounds", 2_500_000, 32);
+fn marking_at_or_below_breaks_the_chain_with_a_cut() {
+    let history = |stores: &str| {
+        let text = format!(
+            "group 0005 1 3 0; view 1:0007 2:0005 3:0005 4:0001 5:0003 6:0004
+             enter 1 1 0 2; state 1 0<1 0<2 2<0 2<1 1<0 1<2; decide 0 2 1
+             attempt 1 2<0 2<1; form 2
+             enter 2 0 2; state 2 2<0 0<2; decide 2 0; attempt 2 2<0; form 2
+             enter 3 2 0; state 3 0<2; decide 0{stores}
+             enter 4 0; decide 0
+             enter 5 1 0; state 5 0<1 1<0; decide 0 1; attempt 5 1<0; form 1
+             enter 6 2; decide 2; form 2"
+        );
+        text::read(&text).expect("it reads")
+    };
+    let fault = |slip, stores| {
+        let mut side = Slipped(slip);
+        let mut runner = Runner::new(&mut side, 0);
+        replay(&mut runner, &history(stores)).map(|(_, failure)| failure.fault)
+    };
+    assert_eq!(fault(Slip::MarksAtOrBelow, ":1"), Some(Fault::Chain));
+    assert_eq!(fault(Slip::MarksAtOrBelow, ""), None);
+    assert_eq!(fault(Slip::None, ":1"), None);
 }
 
 /// Which head breaks a tie is the same for all, so the chain holds: only
