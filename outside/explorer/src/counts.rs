@@ -115,7 +115,7 @@ const ANSWERS: [(&str, &[&str]); 9] = [
 ];
 
 /// Cuts after 0 and up to so many stores should be met. Longer calls are rare.
-const CUT_AFTER: [(&str, usize); 4] = [("enter", 0), ("decide", 9), ("form", 12), ("recover", 3)];
+const CUT_AFTER: [(&str, usize); 4] = [("enter", 0), ("decide", 8), ("form", 9), ("recover", 3)];
 
 fn more<K: Ord>(map: &mut BTreeMap<K, u64>, key: K) {
     *map.entry(key).or_default() += 1;

@@ -154,7 +154,7 @@ fn sweep(
     Ok(())
 }
 
-/// Makes a history again: where it fails, and how.
+/// Makes a history again: how many events were made when it fails, and how.
 pub fn replay(runner: &mut Runner, history: &History) -> Option<(usize, Failure)> {
     let mut world = World::new(history.settings);
     if let Err(failure) = runner.start(&mut world) {
@@ -162,7 +162,7 @@ pub fn replay(runner: &mut Runner, history: &History) -> Option<(usize, Failure)
     }
     for (i, event) in history.events.iter().enumerate() {
         if let Err(failure) = runner.step(&mut world, event) {
-            return Some((i, failure));
+            return Some((i + 1, failure));
         }
     }
     None

@@ -122,10 +122,10 @@ fn run_replay(arguments: &Arguments, runner: &mut Runner, history: &str) -> Resu
             println!("{} events, no failure", history.events.len());
             Ok(())
         }
-        Some((at, failure)) => {
+        Some((made, failure)) => {
             println!(
                 "event {} of {}: {:?}",
-                at + 1,
+                made,
                 history.events.len(),
                 failure.fault
             );

@@ -40,7 +40,8 @@ impl Rounds {
         let mut events = self.round(rng, view, members);
         let late = std::mem::take(&mut self.held);
         if rng.one_in(4) {
-            let from = rng.index(events.len());
+            // The view itself is announced now.
+            let from = 1 + rng.index(events.len());
             self.held = events.split_off(from);
         }
         events.extend(late);

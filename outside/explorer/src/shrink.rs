@@ -46,8 +46,8 @@ impl Shrinker<'_, '_> {
             return false;
         }
         match replay(self.runner, &tried) {
-            Some((at, failure)) if failure.fault == self.fault => {
-                tried.events.truncate(at + 1);
+            Some((made, failure)) if failure.fault == self.fault => {
+                tried.events.truncate(made);
                 self.best = tried;
                 true
             }

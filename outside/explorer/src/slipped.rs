@@ -8,7 +8,7 @@ use second::answers::Answer;
 use second::group::{has, heads_in, highest_head, single, size};
 use second::head_session::{HeadSession, Held, Stage};
 use second::lines::Frame;
-use second::record::{FORMED, MARKS, NUMBER, PLACE, PRIMARY, VIEW, WORDS};
+use second::record::{start_with_none, FORMED, MARKS, NUMBER, PLACE, PRIMARY, VIEW, WORDS};
 
 #[derive(Clone, Copy, PartialEq, Eq, Debug)]
 pub enum Slip {
@@ -26,12 +26,18 @@ pub enum Slip {
     MarksAtOrBelow,
     /// Under c, a head that doesn't list S is enough.
     ClearsUnlisted,
+    /// Nothing is cleared under c.
+    KeepsUnderC,
     /// Adoption leaves the places.
     AdoptsWithPlaces,
     /// Form leaves the places.
     FormsWithPlaces,
     /// A view can be entered twice.
     EntersTwice,
+    /// A refused decide ends the session.
+    ForgetsWhenRefused,
+    /// Core heads start with none.
+    StartsWithNone,
     /// Recovery doesn't raise word 2.
     RecoversWithoutStep1,
     /// Recovery doesn't set last formed.
@@ -42,7 +48,7 @@ pub enum Slip {
     RecoversWithoutStep4,
 }
 
-pub const SLIPS: [(&str, Slip); 14] = [
+pub const SLIPS: [(&str, Slip); 17] = [
     ("none", Slip::None),
     ("keeps-latest", Slip::KeepsLatest),
     ("drops-after-later", Slip::DropsAfterLater),
@@ -50,9 +56,12 @@ pub const SLIPS: [(&str, Slip); 14] = [
     ("half-passes", Slip::HalfPasses),
     ("marks-at-or-below", Slip::MarksAtOrBelow),
     ("clears-unlisted", Slip::ClearsUnlisted),
+    ("keeps-under-c", Slip::KeepsUnderC),
     ("adopts-with-places", Slip::AdoptsWithPlaces),
     ("forms-with-places", Slip::FormsWithPlaces),
     ("enters-twice", Slip::EntersTwice),
+    ("forgets-when-refused", Slip::ForgetsWhenRefused),
+    ("starts-with-none", Slip::StartsWithNone),
     ("recovers-without-step-1", Slip::RecoversWithoutStep1),
     ("recovers-without-step-2", Slip::RecoversWithoutStep2),
     ("recovers-without-step-3", Slip::RecoversWithoutStep3),
@@ -189,7 +198,7 @@ impl Deciding<'_> {
                     || self.slip == Slip::ClearsUnlisted;
                 has(heads(s), q) && !lists && older
             });
-            if all_marked || disowned {
+            if (all_marked || disowned) && self.slip != Slip::KeepsUnderC {
                 plan.clear(i);
             }
         }
@@ -342,7 +351,10 @@ impl Side for Slipped {
     }
 
     fn start(&mut self, record: &mut [u64], head: u8, w0: u16, q: u8) -> Answer {
-        Second.start(record, head, w0, q)
+        match self.0 {
+            Slip::StartsWithNone => start_with_none(record, head, w0, q),
+            _ => Second.start(record, head, w0, q),
+        }
     }
 
     fn recover(&mut self, record: &mut [u64], budget: u64) -> Answer {
@@ -385,7 +397,12 @@ impl Side for Slipped {
         // Refusals come first, and they are those of second.
         let mut copy = record.to_vec();
         match Second.decide(&mut copy, &mut session.clone(), 0) {
-            refused @ Answer::Refused(_) => refused,
+            refused @ Answer::Refused(_) => {
+                if self.0 == Slip::ForgetsWhenRefused {
+                    *session = HeadSession::none();
+                }
+                refused
+            }
             _ => self.decided(record, session, budget),
         }
     }

@@ -23,13 +23,9 @@ fn found(slip: Slip, lockstep: u64, steps: u64, only: Option<&str>) -> Option<(F
     let found = explore(&mut runner, &options).err()?;
     let fault = found.failure.fault;
     let small = shrink(&mut runner, found.history, fault, Duration::from_secs(60));
-    let (at, again) = replay(&mut runner, &small).expect("the shrunk history fails");
+    let (made, again) = replay(&mut runner, &small).expect("the shrunk history fails");
     assert_eq!(again.fault, fault);
-    assert_eq!(
-        at + 1,
-        small.events.len(),
-        "nothing comes after the failure"
-    );
+    assert_eq!(made, small.events.len(), "nothing comes after the failure");
     Some((fault, small))
 }
 
@@ -84,6 +80,42 @@ fn slips_of_recovery_are_found_without_lockstep() {
             shown(&small)
         );
     }
+}
+
+/// Each check by itself finds a slip.
+#[test]
+fn other_checks_find_slips_without_lockstep() {
+    let faults = [
+        (Slip::ForgetsWhenRefused, None, Fault::NotKept),
+        (Slip::AdoptsWithPlaces, None, Fault::Refusal2),
+        (Slip::EntersTwice, None, Fault::Line),
+        (Slip::KeepsUnderC, Some("pile"), Fault::Places),
+    ];
+    for (slip, only, expected) in faults {
+        let (fault, _) = found(slip, 0, 100_000, only).expect("it is found");
+        assert_eq!(fault, expected, "{slip:?}");
+    }
+    let mut side = Slipped(Slip::None);
+    let mut runner = Runner::new(&mut side, 0);
+    let no_start = text::read("group 0003 3 2 0").expect("it reads");
+    let failed = replay(&mut runner, &no_start);
+    assert!(failed.is_some_and(|(_, failure)| failure.fault == Fault::Start));
+}
+
+#[test]
+fn a_short_run_does_not_meet_all() {
+    let mut side = Slipped(Slip::None);
+    let mut runner = Runner::new(&mut side, 0);
+    let options = Options {
+        seed: 1,
+        steps: 1000,
+        time: None,
+        only: None,
+    };
+    assert!(explore(&mut runner, &options).is_ok());
+    let not_met = runner.counts.not_met();
+    assert!(not_met.contains(&String::from("decide: numbers run out")));
+    assert!(not_met.contains(&String::from("form cut after 9 stores")));
 }
 
 /// Found by the formed sessions alone, in so many steps and lines.
