@@ -1,0 +1,277 @@
+//! The driver: announces views, arms and makes kills, restarts heads.
+
+use crate::check::Group;
+use crate::relay::{Carried, Relay};
+use crate::schedule::{Kill, Moment, Schedule, Step, View};
+use crate::seat::{Common, Event, Report, Seat};
+use second::group::has;
+use std::collections::VecDeque;
+use std::fs::File;
+use std::io::Write;
+use std::net::{Ipv4Addr, SocketAddr};
+use std::path::{Path, PathBuf};
+use std::sync::mpsc::{channel, Receiver, RecvTimeoutError};
+use std::time::{Duration, Instant};
+
+/// How long a soak runs: this time, and at least this many steps, so that a
+/// slow machine meets as much as a fast one.
+#[derive(Clone, Copy)]
+pub struct Length {
+    pub time: Duration,
+    pub steps: u32,
+}
+
+/// What the driver did.
+#[derive(Clone, Debug, Default)]
+pub struct Ran {
+    pub steps: u64,
+    pub calm: u64,
+    pub views: u64,
+    pub kills: u64,
+    /// Kills at a named store that the head did not come to.
+    pub unmet: u64,
+    pub lives: Vec<u32>,
+    pub carried: Carried,
+}
+
+/// The time given to a head to recover.
+const LIMIT: Duration = Duration::from_secs(120);
+
+pub struct Driver {
+    common: Common,
+    relay: Relay,
+    seats: Vec<Seat>,
+    events: Receiver<Event>,
+    /// The view that each head is in, and the kill that is armed for it.
+    current: Vec<Option<View>>,
+    armed: Vec<Option<Kill>>,
+    ran: Ran,
+}
+
+impl Driver {
+    pub fn new(program: PathBuf, folder: &Path, group: Group) -> Result<Driver, String> {
+        let relay = Relay::start().map_err(|e| format!("the relay: {e}"))?;
+        let (sender, events) = channel();
+        let seats: Result<Vec<Seat>, String> = (0..group.heads)
+            .map(|head| Seat::new(head, folder))
+            .collect();
+        let count = group.heads as usize;
+        Ok(Driver {
+            common: Common {
+                program,
+                folder: folder.to_path_buf(),
+                group,
+                relay: relay.address,
+                events: sender,
+            },
+            relay,
+            seats: seats?,
+            events,
+            current: vec![None; count],
+            armed: vec![None; count],
+            ran: Ran::default(),
+        })
+    }
+
+    /// Runs the schedule. The last step is a calm one, so that no head stands
+    /// at a store when all are told to quit.
+    pub fn run(mut self, schedule: Schedule, length: Length) -> Result<Ran, String> {
+        let end = Instant::now() + length.time;
+        let path = self.common.folder.join("schedule");
+        let mut plan = File::create(&path).map_err(|e| format!("{}: {e}", path.display()))?;
+        for step in schedule {
+            writeln!(plan, "{step}").map_err(|e| format!("{}: {e}", path.display()))?;
+            self.step(&step)
+                .map_err(|problem| format!("{step}: {problem}"))?;
+            if step.calm && step.number >= length.steps && Instant::now() >= end {
+                break;
+            }
+        }
+        for seat in &mut self.seats {
+            seat.quit()?;
+            self.ran.lives.push(seat.lives);
+        }
+        self.ran.carried = self.relay.carried();
+        Ok(self.ran)
+    }
+
+    fn step(&mut self, step: &Step) -> Result<(), String> {
+        self.bring_up(step.calm)?;
+        self.announce(step);
+        self.wait(step)?;
+        self.ran.steps += 1;
+        self.ran.calm += u64::from(step.calm);
+        self.ran.views += step.groups.len() as u64;
+        self.ran.unmet += self.armed.iter().flatten().count() as u64;
+        Ok(())
+    }
+
+    /// Makes the processes that are due and waits until they have recovered.
+    fn bring_up(&mut self, all: bool) -> Result<(), String> {
+        self.current.fill(None);
+        self.armed.fill(None);
+        for seat in &mut self.seats {
+            if seat.is_up() {
+                continue;
+            }
+            if all || seat.down == 0 {
+                seat.spawn(&self.common)?;
+            } else {
+                seat.down -= 1;
+            }
+        }
+        let end = Instant::now() + LIMIT;
+        while self.seats.iter().any(|seat| seat.is_up() && !seat.ready) {
+            if !self.take_event(end)? && Instant::now() >= end {
+                return Err(String::from("a head does not recover"));
+            }
+        }
+        Ok(())
+    }
+
+    fn announce(&mut self, step: &Step) {
+        self.relay.step(&step.groups, step.links);
+        for view in &step.groups {
+            for seat in &self.seats {
+                if has(view.members, seat.head as usize) {
+                    self.current[seat.head as usize] = Some(*view);
+                }
+            }
+        }
+        for kill in &step.kills {
+            if let Moment::AtStore { .. } = kill.moment {
+                self.armed[kill.head as usize] = Some(kill.clone());
+            }
+        }
+        for head in 0..self.seats.len() {
+            self.seats[head].tell("clear");
+            self.tell_view(head);
+        }
+        if let Some((head, view)) = step.stray {
+            self.seats[head as usize].tell(&view_command(view));
+        }
+    }
+
+    /// Tells a head of the kill armed for it, then of its view.
+    fn tell_view(&mut self, head: usize) {
+        let armed = self.armed[head].as_ref().map(|kill| kill.moment);
+        if let Some(Moment::AtStore { kind, at }) = armed {
+            self.seats[head].hold(kind, at);
+        }
+        if let Some(view) = self.current[head] {
+            self.seats[head].tell(&view_command(view));
+        }
+    }
+
+    /// Waits until the step is over, and kills where it says so.
+    fn wait(&mut self, step: &Step) -> Result<(), String> {
+        let begun = Instant::now();
+        let end = begun + Duration::from_millis(step.patience);
+        let mut timed: Vec<(Instant, Kill)> = Vec::new();
+        for kill in &step.kills {
+            if let Moment::After { micros } = kill.moment {
+                timed.push((begun + Duration::from_micros(micros), kill.clone()));
+            }
+        }
+        timed.sort_by_key(|(due, _)| std::cmp::Reverse(*due));
+        while Instant::now() < end && !(timed.is_empty() && self.all_settled()) {
+            let due = timed.last().map_or(end, |(due, _)| *due);
+            if self.take_event(due.min(end))? || Instant::now() < due {
+                continue;
+            }
+            if let Some((_, kill)) = timed.pop() {
+                self.kill(kill.head as usize, Some(kill))?;
+            }
+        }
+        if step.calm && !self.all_formed() {
+            return Err(String::from("a head did not form in a calm step"));
+        }
+        Ok(())
+    }
+
+    fn all_settled(&self) -> bool {
+        self.seats.iter().all(|seat| {
+            let settled = seat.settled.map(|(view, _)| view);
+            let view = self.current[seat.head as usize].map(|view| view.number);
+            !seat.is_up() || view.is_none() || settled == view
+        })
+    }
+
+    fn all_formed(&self) -> bool {
+        self.seats.iter().all(|seat| {
+            let view = self.current[seat.head as usize];
+            view.is_some_and(|view| seat.settled == Some((view.number, true)))
+        })
+    }
+
+    /// Waits for an event until then and acts on it. False if none came.
+    fn take_event(&mut self, until: Instant) -> Result<bool, String> {
+        let wait = until.saturating_duration_since(Instant::now());
+        match self.events.recv_timeout(wait) {
+            Ok(event) => self.act(&event).map(|()| true),
+            Err(RecvTimeoutError::Timeout) => Ok(false),
+            Err(RecvTimeoutError::Disconnected) => Err(String::from("no head reports")),
+        }
+    }
+
+    fn act(&mut self, event: &Event) -> Result<(), String> {
+        let head = event.head as usize;
+        if !self.seats[head].is_current(event) {
+            return Ok(());
+        }
+        match event.report {
+            Report::Ready(port) => {
+                let address = SocketAddr::from((Ipv4Addr::LOCALHOST, port));
+                self.relay.place(event.head, Some(address));
+                self.seats[head].ready = true;
+                // A head that comes back is told of its view again.
+                self.tell_view(head);
+            }
+            Report::Held if self.seats[head].ready => {
+                let kill = self.armed[head].take();
+                self.kill(head, kill)?;
+            }
+            Report::Held => self.kill_in_recovery(head)?,
+            Report::Settled { view, formed } => {
+                if self.current[head].is_some_and(|current| current.number == view) {
+                    self.seats[head].settled = Some((view, formed));
+                }
+            }
+            Report::Unfit => return Err(format!("head {head} answers 2")),
+            Report::Gone => return Err(format!("head {head} ended by itself")),
+        }
+        Ok(())
+    }
+
+    /// Kills a head as the schedule says, if it is up.
+    fn kill(&mut self, head: usize, kill: Option<Kill>) -> Result<(), String> {
+        if !self.seats[head].is_up() {
+            return Ok(());
+        }
+        self.end_life(head)?;
+        let seat = &mut self.seats[head];
+        seat.down = kill.as_ref().map_or(0, |kill| kill.down);
+        seat.in_recovery = kill.map_or(VecDeque::new(), |kill| kill.in_recovery.into());
+        if seat.down == 0 {
+            seat.spawn(&self.common)?;
+        }
+        Ok(())
+    }
+
+    /// Kills a head that stands at a store of its recovery, and lets it
+    /// recover again.
+    fn kill_in_recovery(&mut self, head: usize) -> Result<(), String> {
+        self.end_life(head)?;
+        self.seats[head].spawn(&self.common)
+    }
+
+    fn end_life(&mut self, head: usize) -> Result<(), String> {
+        self.relay.place(head as u8, None);
+        self.ran.kills += 1;
+        self.seats[head].kill()
+    }
+}
+
+fn view_command(view: View) -> String {
+    format!("view {} {:x}", view.number, view.members)
+}
