@@ -2,7 +2,7 @@
 
 use crate::check::Group;
 use crate::relay::{Carried, Relay};
-use crate::schedule::{Kill, Moment, Schedule, Step, View};
+use crate::schedule::{Kill, Manner, Moment, Schedule, Step, View};
 use crate::seat::{Common, Event, Report, Seat};
 use second::group::has;
 use std::collections::VecDeque;
@@ -26,6 +26,7 @@ pub struct Length {
 pub struct Ran {
     pub steps: u64,
     pub calm: u64,
+    pub staged: u64,
     pub views: u64,
     pub kills: u64,
     /// Kills at a named store that the head did not come to.
@@ -33,6 +34,13 @@ pub struct Ran {
     pub lives: Vec<u32>,
     pub carried: Carried,
 }
+
+/// The longest wait for a kill at a named store. It is seldom needed: a line
+/// that the system drops isn't sent again by a head that was killed.
+const STAGED_LIMIT: Duration = Duration::from_secs(3);
+
+/// How often the driver looks at the clock.
+const LOOK: Duration = Duration::from_millis(2);
 
 /// The time given to a head to recover.
 const LIMIT: Duration = Duration::from_secs(120);
@@ -83,7 +91,7 @@ impl Driver {
             writeln!(plan, "{step}").map_err(|e| format!("{}: {e}", path.display()))?;
             self.step(&step)
                 .map_err(|problem| format!("{step}: {problem}"))?;
-            if step.calm && step.number >= length.steps && Instant::now() >= end {
+            if step.manner == Manner::Calm && step.number >= length.steps && Instant::now() >= end {
                 break;
             }
         }
@@ -96,11 +104,12 @@ impl Driver {
     }
 
     fn step(&mut self, step: &Step) -> Result<(), String> {
-        self.bring_up(step.calm)?;
+        self.bring_up(step.manner != Manner::Rough)?;
         self.announce(step);
         self.wait(step)?;
         self.ran.steps += 1;
-        self.ran.calm += u64::from(step.calm);
+        self.ran.calm += u64::from(step.manner == Manner::Calm);
+        self.ran.staged += u64::from(step.manner == Manner::Staged);
         self.ran.views += step.groups.len() as u64;
         self.ran.unmet += self.armed.iter().flatten().count() as u64;
         Ok(())
@@ -166,7 +175,6 @@ impl Driver {
     /// Waits until the step is over, and kills where it says so.
     fn wait(&mut self, step: &Step) -> Result<(), String> {
         let begun = Instant::now();
-        let end = begun + Duration::from_millis(step.patience);
         let mut timed: Vec<(Instant, Kill)> = Vec::new();
         for kill in &step.kills {
             if let Moment::After { micros } = kill.moment {
@@ -174,27 +182,49 @@ impl Driver {
             }
         }
         timed.sort_by_key(|(due, _)| std::cmp::Reverse(*due));
-        while Instant::now() < end && !(timed.is_empty() && self.all_settled()) {
-            let due = timed.last().map_or(end, |(due, _)| *due);
-            if self.take_event(due.min(end))? || Instant::now() < due {
-                continue;
-            }
-            if let Some((_, kill)) = timed.pop() {
-                self.kill(kill.head as usize, Some(kill))?;
+        while begun.elapsed() < self.limit(step) && !(timed.is_empty() && self.all_settled()) {
+            let look = Instant::now() + LOOK;
+            let due = timed.last().map_or(look, |(due, _)| *due);
+            self.take_event(due.min(look))?;
+            if timed.last().is_some_and(|(due, _)| *due <= Instant::now()) {
+                let kill = timed.pop().map(|(_, kill)| kill);
+                let head = kill.as_ref().map_or(0, |kill| kill.head);
+                self.kill(head as usize, kill)?;
             }
         }
-        if step.calm && !self.all_formed() {
+        if step.manner == Manner::Calm && !self.all_formed() {
             return Err(String::from("a head did not form in a calm step"));
         }
         Ok(())
     }
 
+    /// How long the step may last, as things are.
+    fn limit(&self, step: &Step) -> Duration {
+        if step.manner == Manner::Staged && self.a_kill_is_to_come() {
+            STAGED_LIMIT
+        } else {
+            Duration::from_millis(step.patience)
+        }
+    }
+
+    /// Is a head that is to be killed still on its way there?
+    fn a_kill_is_to_come(&self) -> bool {
+        let armed = |seat: &&Seat| self.armed[seat.head as usize].is_some();
+        self.seats
+            .iter()
+            .filter(armed)
+            .any(|seat| !self.is_settled(seat))
+    }
+
+    /// A head that is down or in no view has nothing to settle.
+    fn is_settled(&self, seat: &Seat) -> bool {
+        let settled = seat.settled.map(|(view, _)| view);
+        let view = self.current[seat.head as usize].map(|view| view.number);
+        !seat.is_up() || view.is_none() || settled == view
+    }
+
     fn all_settled(&self) -> bool {
-        self.seats.iter().all(|seat| {
-            let settled = seat.settled.map(|(view, _)| view);
-            let view = self.current[seat.head as usize].map(|view| view.number);
-            !seat.is_up() || view.is_none() || settled == view
-        })
+        self.seats.iter().all(|seat| self.is_settled(seat))
     }
 
     fn all_formed(&self) -> bool {

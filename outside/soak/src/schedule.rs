@@ -48,28 +48,34 @@ pub struct Kill {
     pub in_recovery: Vec<u64>,
 }
 
+#[derive(Clone, Copy, PartialEq, Eq, Debug)]
+pub enum Manner {
+    /// All heads are up, in one view, and nothing is done to them: all form.
+    Calm,
+    /// All heads are up and all lines come; kills are at named stores only,
+    /// and the step waits for them.
+    Staged,
+    /// Anything may be done, and the step waits for nothing.
+    Rough,
+}
+
 #[derive(Clone, PartialEq, Eq, Debug)]
 pub struct Step {
     pub number: u32,
-    /// All heads are up, in one view, and nothing is done to them: all form.
-    pub calm: bool,
+    pub manner: Manner,
     pub groups: Vec<View>,
     pub links: Links,
     pub kills: Vec<Kill>,
     /// A head that is also told of a view that it is not in.
     pub stray: Option<(u8, View)>,
-    /// The step ends after so many milliseconds if it has not before.
+    /// The step ends after so many milliseconds if it has not before and waits
+    /// for no kill.
     pub patience: u64,
 }
 
 impl fmt::Display for Step {
     fn fmt(&self, f: &mut fmt::Formatter) -> fmt::Result {
-        write!(
-            f,
-            "step {}{}:",
-            self.number,
-            if self.calm { " calm" } else { "" }
-        )?;
+        write!(f, "step {} {:?}:", self.number, self.manner)?;
         for view in &self.groups {
             write!(f, " view {} {:04x}", view.number, view.members)?;
         }
@@ -210,12 +216,12 @@ impl Schedule {
         }
     }
 
-    fn kills(&mut self) -> Vec<Kill> {
+    /// One to three kills. A kill keeps others from what comes after it, so
+    /// all have one aim unless they are mixed.
+    fn kills(&mut self, first: Option<Kind>, mixed: bool) -> Vec<Kill> {
         let mut heads = heads_in(self.every_head());
         let count = (self.rng.range(1, 3) as usize).min(heads.len());
-        // A kill keeps others from what comes after it, so most steps have one aim.
-        let mixed = self.rng.one_in(4);
-        let mut aim = self.aim();
+        let mut aim = first;
         let mut kills = Vec::new();
         for _ in 0..count {
             let head = heads.swap_remove(self.rng.index(heads.len()));
@@ -245,7 +251,7 @@ impl Schedule {
         let all = self.every_head();
         Step {
             number: self.step,
-            calm: true,
+            manner: Manner::Calm,
             groups: vec![self.new_view(all)],
             links: Links::default(),
             kills: Vec::new(),
@@ -254,15 +260,44 @@ impl Schedule {
         }
     }
 
+    fn staged(&mut self) -> Step {
+        self.up_from.fill(0);
+        let groups = self.partition();
+        let kinds = [
+            Kind::Enter,
+            Kind::Decide,
+            Kind::Decide,
+            Kind::Form,
+            Kind::Form,
+        ];
+        let aim = self.rng.pick(&kinds);
+        let kills = self.kills(Some(aim), false);
+        Step {
+            number: self.step,
+            manner: Manner::Staged,
+            groups,
+            links: Links::default(),
+            kills,
+            stray: None,
+            patience: self.rng.range(15, 60),
+        }
+    }
+
     fn rough(&mut self) -> Step {
         let groups = self.partition();
         let fair = self.rng.one_in(3);
         let links = if fair { Links::default() } else { self.links() };
-        let kills = if fair { Vec::new() } else { self.kills() };
+        let aim = self.aim();
+        let mixed = self.rng.one_in(4);
+        let kills = if fair {
+            Vec::new()
+        } else {
+            self.kills(aim, mixed)
+        };
         let stray = self.stray(&groups);
         Step {
             number: self.step,
-            calm: false,
+            manner: Manner::Rough,
             groups,
             links,
             kills,
@@ -281,9 +316,11 @@ impl Iterator for Schedule {
 
     fn next(&mut self) -> Option<Step> {
         self.step += 1;
-        let calm = self.rng.one_in(10);
-        let step = if calm { self.calm() } else { self.rough() };
-        Some(step)
+        Some(match self.rng.below(10) {
+            0 => self.calm(),
+            1..=3 => self.staged(),
+            _ => self.rough(),
+        })
     }
 }
 

@@ -24,8 +24,8 @@ pub fn summary(ran: &Ran, good: &Good) -> String {
 
 fn driven(ran: &Ran, counts: &Counts) -> String {
     format!(
-        "steps {} ({} calm), views {}, calls {}, stores {}",
-        ran.steps, ran.calm, ran.views, counts.calls, counts.stores
+        "steps {} ({} calm, {} staged), views {}, calls {}, stores {}",
+        ran.steps, ran.calm, ran.staged, ran.views, counts.calls, counts.stores
     )
 }
 
