@@ -90,7 +90,7 @@ impl Driver {
         for step in schedule {
             writeln!(plan, "{step}").map_err(|e| format!("{}: {e}", path.display()))?;
             self.step(&step)
-                .map_err(|problem| format!("{step}: {problem}"))?;
+                .map_err(|problem| format!("{problem}, in {step}"))?;
             if step.manner == Manner::Calm && step.number >= length.steps && Instant::now() >= end {
                 break;
             }

@@ -57,15 +57,20 @@ pub struct Replay {
     pub views: HashSet<(u32, u16)>,
 }
 
+/// The first word that differs.
 fn differing(found: &[u64], expected: &[u64]) -> String {
-    match (0..WORDS).find(|&word| found.get(word) != expected.get(word)) {
-        Some(word) => format!(
-            "word {word} is {:x?} and should be {:x?}",
-            found.get(word),
-            expected.get(word)
-        ),
-        None => String::from("the number of words is wrong"),
+    let mut pairs = found.iter().zip(expected).enumerate();
+    match pairs.find(|(_, (found, expected))| found != expected) {
+        Some((word, (found, expected))) => {
+            format!("word {word} is {found:x} and should be {expected:x}")
+        }
+        None => format!("{} words", found.len()),
     }
+}
+
+/// The begin of an entry, which may be long.
+fn shown(entry: &Entry) -> String {
+    entry.text().chars().take(60).collect()
 }
 
 fn ensure(holds: bool, problem: impl FnOnce() -> String) -> Result<(), String> {
@@ -103,7 +108,7 @@ impl Replay {
         self.quit = false;
         for (at, entry) in entries.iter().enumerate() {
             self.entry(at, entry)
-                .map_err(|problem| format!("entry {}, {}: {problem}", at + 1, entry.text()))?;
+                .map_err(|problem| format!("entry {} ({}): {problem}", at + 1, shown(entry)))?;
         }
         if entries.iter().any(|entry| matches!(entry, Entry::Found(_))) {
             self.left = self.left_behind();
