@@ -45,6 +45,15 @@ const LOOK: Duration = Duration::from_millis(2);
 /// The time given to a head to recover.
 const LIMIT: Duration = Duration::from_secs(120);
 
+/// A kill that is due at a time, if the head is in that life then.
+struct Timer {
+    due: Instant,
+    head: usize,
+    life: u32,
+    /// None for a kill in a recovery.
+    kill: Option<Kill>,
+}
+
 pub struct Driver {
     common: Common,
     relay: Relay,
@@ -53,6 +62,7 @@ pub struct Driver {
     /// The view that each head is in, and the kill that is armed for it.
     current: Vec<Option<View>>,
     armed: Vec<Option<Kill>>,
+    timers: Vec<Timer>,
     ran: Ran,
 }
 
@@ -77,6 +87,7 @@ impl Driver {
             events,
             current: vec![None; count],
             armed: vec![None; count],
+            timers: Vec::new(),
             ran: Ran::default(),
         })
     }
@@ -119,23 +130,46 @@ impl Driver {
     fn bring_up(&mut self, all: bool) -> Result<(), String> {
         self.current.fill(None);
         self.armed.fill(None);
-        for seat in &mut self.seats {
+        self.timers.clear();
+        for head in 0..self.seats.len() {
+            let seat = &mut self.seats[head];
             if seat.is_up() {
                 continue;
             }
             if all || seat.down == 0 {
-                seat.spawn(&self.common)?;
+                self.spawn(head)?;
             } else {
                 seat.down -= 1;
             }
         }
         let end = Instant::now() + LIMIT;
         while self.seats.iter().any(|seat| seat.is_up() && !seat.ready) {
-            if !self.take_event(end)? && Instant::now() >= end {
+            if Instant::now() >= end {
                 return Err(String::from("a head does not recover"));
             }
+            self.look()?;
+        }
+        // A kill in a recovery that is over must not fall in the step.
+        self.timers.clear();
+        Ok(())
+    }
+
+    /// Makes a head's process, and sets the time of a kill in its recovery.
+    fn spawn(&mut self, head: usize) -> Result<(), String> {
+        let after = self.seats[head].spawn(&self.common)?;
+        if let Some(after) = after {
+            self.set_timer(head, after, None);
         }
         Ok(())
+    }
+
+    fn set_timer(&mut self, head: usize, after: Duration, kill: Option<Kill>) {
+        self.timers.push(Timer {
+            due: Instant::now() + after,
+            head,
+            life: self.seats[head].lives,
+            kill,
+        });
     }
 
     fn announce(&mut self, step: &Step) {
@@ -175,22 +209,17 @@ impl Driver {
     /// Waits until the step is over, and kills where it says so.
     fn wait(&mut self, step: &Step) -> Result<(), String> {
         let begun = Instant::now();
-        let mut timed: Vec<(Instant, Kill)> = Vec::new();
         for kill in &step.kills {
             if let Moment::After { micros } = kill.moment {
-                timed.push((begun + Duration::from_micros(micros), kill.clone()));
+                let after = Duration::from_micros(micros);
+                self.set_timer(kill.head as usize, after, Some(kill.clone()));
             }
         }
-        timed.sort_by_key(|(due, _)| std::cmp::Reverse(*due));
-        while begun.elapsed() < self.limit(step) && !(timed.is_empty() && self.all_settled()) {
-            let look = Instant::now() + LOOK;
-            let due = timed.last().map_or(look, |(due, _)| *due);
-            self.take_event(due.min(look))?;
-            if timed.last().is_some_and(|(due, _)| *due <= Instant::now()) {
-                let kill = timed.pop().map(|(_, kill)| kill);
-                let head = kill.as_ref().map_or(0, |kill| kill.head);
-                self.kill(head as usize, kill)?;
+        while begun.elapsed() < self.limit(step) {
+            if self.timers.is_empty() && self.all_settled() {
+                break;
             }
+            self.look()?;
         }
         if step.manner == Manner::Calm && !self.all_formed() {
             return Err(String::from("a head did not form in a calm step"));
@@ -234,14 +263,36 @@ impl Driver {
         })
     }
 
-    /// Waits for an event until then and acts on it. False if none came.
-    fn take_event(&mut self, until: Instant) -> Result<bool, String> {
-        let wait = until.saturating_duration_since(Instant::now());
-        match self.events.recv_timeout(wait) {
-            Ok(event) => self.act(&event).map(|()| true),
-            Err(RecvTimeoutError::Timeout) => Ok(false),
-            Err(RecvTimeoutError::Disconnected) => Err(String::from("no head reports")),
+    /// Waits a short while for an event, acts on it, and makes the kills that
+    /// are due.
+    fn look(&mut self) -> Result<(), String> {
+        let now = Instant::now();
+        let due = self.timers.iter().map(|timer| timer.due).min();
+        let wait = due.map_or(LOOK, |due| due.saturating_duration_since(now));
+        match self.events.recv_timeout(wait.min(LOOK)) {
+            Ok(event) => self.act(&event)?,
+            Err(RecvTimeoutError::Timeout) => {}
+            Err(RecvTimeoutError::Disconnected) => return Err(String::from("no head reports")),
         }
+        self.make_due_kills()
+    }
+
+    fn make_due_kills(&mut self) -> Result<(), String> {
+        let now = Instant::now();
+        let all = std::mem::take(&mut self.timers).into_iter();
+        let (due, later): (Vec<Timer>, Vec<Timer>) = all.partition(|timer| timer.due <= now);
+        self.timers = later;
+        for timer in due {
+            let seat = &self.seats[timer.head];
+            if !seat.is_up() || seat.lives != timer.life {
+                continue;
+            }
+            match timer.kill {
+                None => self.kill_in_recovery(timer.head)?,
+                kill => self.kill(timer.head, kill)?,
+            }
+        }
+        Ok(())
     }
 
     fn act(&mut self, event: &Event) -> Result<(), String> {
@@ -273,26 +324,22 @@ impl Driver {
         Ok(())
     }
 
-    /// Kills a head as the schedule says, if it is up.
+    /// Kills a head as the schedule says.
     fn kill(&mut self, head: usize, kill: Option<Kill>) -> Result<(), String> {
-        if !self.seats[head].is_up() {
-            return Ok(());
-        }
         self.end_life(head)?;
         let seat = &mut self.seats[head];
         seat.down = kill.as_ref().map_or(0, |kill| kill.down);
         seat.in_recovery = kill.map_or(VecDeque::new(), |kill| kill.in_recovery.into());
         if seat.down == 0 {
-            seat.spawn(&self.common)?;
+            self.spawn(head)?;
         }
         Ok(())
     }
 
-    /// Kills a head that stands at a store of its recovery, and lets it
-    /// recover again.
+    /// Kills a head that is at its recovery, and lets it recover again.
     fn kill_in_recovery(&mut self, head: usize) -> Result<(), String> {
         self.end_life(head)?;
-        self.seats[head].spawn(&self.common)
+        self.spawn(head)
     }
 
     fn end_life(&mut self, head: usize) -> Result<(), String> {

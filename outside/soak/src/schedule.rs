@@ -37,15 +37,23 @@ pub enum Moment {
     After { micros: u64 },
 }
 
+/// When a head is killed in its recovery.
+#[derive(Clone, Copy, PartialEq, Eq, Debug)]
+pub enum Stop {
+    /// Of n stores so many modulo n + 1 are made.
+    AtStore(u64),
+    /// So many microseconds after its process was made.
+    After(u64),
+}
+
 #[derive(Clone, PartialEq, Eq, Debug)]
 pub struct Kill {
     pub head: u8,
     pub moment: Moment,
     /// The steps that the head stays down.
     pub down: u32,
-    /// Kills during the recovery that follows, one after the other, each with
-    /// its number of stores as in `Moment::AtStore`.
-    pub in_recovery: Vec<u64>,
+    /// Kills during the recovery that follows, one after the other.
+    pub in_recovery: Vec<Stop>,
 }
 
 #[derive(Clone, Copy, PartialEq, Eq, Debug)]
@@ -206,7 +214,7 @@ impl Schedule {
             0
         };
         let again = if rng.one_in(2) { rng.range(1, 3) } else { 0 };
-        let in_recovery = (0..again).map(|_| rng.below(1 << 16)).collect();
+        let in_recovery = (0..again).map(|_| stop(rng)).collect();
         self.up_from[head as usize] = self.step + 1 + down;
         Kill {
             head,
@@ -304,6 +312,14 @@ impl Schedule {
             stray,
             patience: self.rng.range(15, 60),
         }
+    }
+}
+
+fn stop(rng: &mut Rng) -> Stop {
+    if rng.one_in(4) {
+        Stop::After(rng.below(4_000))
+    } else {
+        Stop::AtStore(rng.below(1 << 16))
     }
 }
 

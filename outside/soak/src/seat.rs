@@ -2,6 +2,7 @@
 
 use crate::calls::Kind;
 use crate::check::{head_folder, Group};
+use crate::schedule::Stop;
 use std::collections::VecDeque;
 use std::io::{BufRead, BufReader, Write};
 use std::net::SocketAddr;
@@ -9,6 +10,7 @@ use std::os::unix::process::ExitStatusExt;
 use std::path::{Path, PathBuf};
 use std::process::{Child, ChildStdin, ChildStdout, Command, Stdio};
 use std::sync::mpsc::Sender;
+use std::time::Duration;
 
 /// What a head reports.
 #[derive(Clone, Copy, PartialEq, Eq, Debug)]
@@ -53,7 +55,7 @@ pub struct Seat {
     /// The steps that it is still to stay down.
     pub down: u32,
     /// Kills that are to come in its recoveries.
-    pub in_recovery: VecDeque<u64>,
+    pub in_recovery: VecDeque<Stop>,
 }
 
 /// The signal of a kill.
@@ -79,9 +81,9 @@ impl Seat {
         self.child.is_some()
     }
 
-    /// Makes the head's process; it recovers, stopped on the way if a kill in
-    /// its recovery is to come.
-    pub fn spawn(&mut self, common: &Common) -> Result<(), String> {
+    /// Makes the head's process. It recovers, and if a kill in its recovery is
+    /// to come it stops on the way, or the time until the kill is handed back.
+    pub fn spawn(&mut self, common: &Common) -> Result<Option<Duration>, String> {
         let mut command = Command::new(&common.program);
         command
             .arg(&common.folder)
@@ -92,7 +94,8 @@ impl Seat {
             .arg(common.relay.to_string())
             .stdin(Stdio::piped())
             .stdout(Stdio::piped());
-        if let Some(at) = self.in_recovery.pop_front() {
+        let stop = self.in_recovery.pop_front();
+        if let Some(Stop::AtStore(at)) = stop {
             command.arg(at.to_string());
         }
         let program = common.program.display();
@@ -106,7 +109,10 @@ impl Seat {
         self.lives += 1;
         self.ready = false;
         self.settled = None;
-        Ok(())
+        Ok(match stop {
+            Some(Stop::After(micros)) => Some(Duration::from_micros(micros)),
+            _ => None,
+        })
     }
 
     /// Is this an event of the process that runs now?
