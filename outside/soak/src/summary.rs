@@ -9,7 +9,7 @@ use second::answers::Answer;
 
 /// The kills have a column for each number of stores made below this one, and
 /// one for more.
-const COLUMNS: usize = 10;
+const COLUMNS: usize = 8;
 
 pub fn summary(ran: &Ran, good: &Good) -> String {
     let counts = &good.counts;
@@ -58,7 +58,7 @@ fn kills(ran: &Ran, counts: &Counts) -> Vec<String> {
 }
 
 fn row(name: &str, cells: impl Iterator<Item = String>) -> String {
-    let cells: String = cells.map(|cell| format!("{cell:>7}")).collect();
+    let cells: String = cells.map(|cell| format!(" {cell:>8}")).collect();
     format!("  {name:<8}{cells}")
 }
 
