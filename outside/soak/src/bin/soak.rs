@@ -93,9 +93,22 @@ fn checked(folder: &Path, group: Group, ran: &Ran) -> Result<Good, String> {
             ran.kills
         ));
     }
-    match good.counts.missing() {
+    match idle(ran, &good).or(good.counts.missing()) {
         Some(missing) => Err(format!("the soak met {missing}")),
         None => Ok(good),
+    }
+}
+
+/// Too little for the steps that were run: the schedule has more than one kill
+/// a step, and every calm step forms a session of its own.
+fn idle(ran: &Ran, good: &Good) -> Option<String> {
+    let sessions = good.chain.len() as u64 - 1;
+    if ran.kills * 2 < ran.steps {
+        Some(format!("only {} kills in {} steps", ran.kills, ran.steps))
+    } else if sessions < ran.calm {
+        Some(format!("{sessions} sessions in {} calm steps", ran.calm))
+    } else {
+        None
     }
 }
 
