@@ -3,4 +3,3 @@ pub mod Invariant
 pub mod Calls
 pub mod Theorem
 pub mod Recovers
-pub mod Examples

@@ -1,4 +1,3 @@
 -- Demand 3 of document 01: what a history is, and what holds of every one.
 pub mod Setting
 pub mod Statement
-pub mod Examples

@@ -40,9 +40,9 @@ use Rattle.head.specs.Refusals.{enterRefusal, stateRefusal, hearStateRefusal, a
 use Rattle.head.specs.Calls.{under, stores, entryStep, enterSpec, hearStateSpec, hearAttemptSpec, decidedStage, decideSpec, formSpec, writes, writeStateSpec, writeAttemptSpec, enterChanges, decidesChanges, formsChanges}
 use Rattle.lines.specs.declared.Line.{Line}
 use Rattle.lines.specs.declared.Line.the-variants.{StateLine, AttemptLine, Broken}
 use Rattle.history.specs.Setting.{Setting}
-use Rattle.history.specs.Examples.{Leads, here, on}
+use Rattle.examples.specs.Examples.{Leads, here, on}
 use Rattle.history.specs.Statement.{Sent, Head, unstarted, running, World, Call, enter, hear-state, hear-attempt, decide, form, recover, write-state, write-attempt, Event, start, call, empty as emptyWorld, step, SentBefore, Given, May, History, more, insert, inOrder}
 
 -- ---- settings with three views
 

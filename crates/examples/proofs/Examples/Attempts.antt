@@ -4,10 +4,10 @@ use mathlib.Core.Path.{_≡_, refl}
 use mathlib.Core.List.{List, [], _∷_}
 use native.Mathlib.Omega.{arith}
 use lib.Dec.{eqb}
 use Rattle.history.specs.Setting.{Setting}
 use Rattle.history.specs.Statement.{World, enter, decide, empty as emptyWorld, begin}
-use Rattle.history.specs.Examples.{lists, crossing, Is, TwoAttempts}
-use Rattle.history.proofs.Examples.Play.{Move, hears-state, starts, makes, tells-state, play, allowed, played, three-views, seven-grouped}
+use Rattle.examples.specs.Examples.{lists, crossing, Is, TwoAttempts}
+use Rattle.examples.proofs.Examples.Play.{Move, hears-state, starts, makes, tells-state, play, allowed, played, three-views, seven-grouped}
 
 unfoldable pub crossed : Setting
 unfolding crossing

@@ -5,10 +5,10 @@ use mathlib.Core.Path.{_≡_, refl}
 use mathlib.Core.List.{List, [], _∷_}
 use lib.ListN.{replicate}
 use Rattle.lines.specs.Writing.{attemptLine}
 use Rattle.history.specs.Statement.{World, enter, hear-attempt, decide, form, start, call, empty as emptyWorld, step, begin}
-use Rattle.history.specs.Examples.{here, Restarted, Forged}
-use Rattle.history.proofs.Examples.Play.{Move, hears-state, hears-attempt, starts, makes, tells-state, tells-attempt, play, allowed, led, played}
-use Rattle.history.proofs.Examples.Attempts.{crossed, crossed-is}
+use Rattle.examples.specs.Examples.{here, Restarted, Forged}
+use Rattle.examples.proofs.Examples.Play.{Move, hears-state, hears-attempt, starts, makes, tells-state, tells-attempt, play, allowed, led, played}
+use Rattle.examples.proofs.Examples.Attempts.{crossed, crossed-is}
 
 -- heads 1 and 2 hear each other in view 2, and head 1 forms
 unfoldable view-two : List Move

@@ -4,10 +4,10 @@ use mathlib.Core.Path.{_≡_, refl, ap}
 use mathlib.Core.List.{List, [], _∷_}
 use native.Mathlib.Omega.{arith}
 use lib.Dec.{eqb}
 use Rattle.history.specs.Setting.{Setting}
 use Rattle.history.specs.Statement.{World, enter, decide, form, recover, call, empty as emptyWorld, History, begin, insert, inOrder}
-use Rattle.history.specs.Examples.{isWhole, shrinking, Is, here, ThreeInARow}
-use Rattle.history.proofs.Examples.Play.{Move, does, hears-state, hears-attempt, starts, makes, tells-state, tells-attempt, play, allowed, led, played, three-views, seven-grouped}
+use Rattle.examples.specs.Examples.{isWhole, shrinking, Is, here, ThreeInARow}
+use Rattle.examples.proofs.Examples.Play.{Move, does, hears-state, hears-attempt, starts, makes, tells-state, tells-attempt, play, allowed, led, played, three-views, seven-grouped}
 
 three : Setting
 unfolding shrinking

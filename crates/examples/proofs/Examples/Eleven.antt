@@ -8,10 +8,10 @@ use Rattle.loops.specs.Below.{foldBelow, countBelow}
 use Rattle.group.specs.Answers.{attempted, no-quorum}
 use Rattle.group.specs.Heads.{has, size, empty}
 use Rattle.group.specs.Quorum.{isGroup}
 use Rattle.history.specs.Setting.{Setting}
 use Rattle.history.specs.Statement.{World, enter, decide, form, call, empty as emptyWorld, History, begin, more}
-use Rattle.history.specs.Examples.{decides, holds, lists, stageOf, eleven, Is, allDecide, CaseEleven}
-use Rattle.history.proofs.Examples.Play.{Move, hears-state, hears-attempt, starts, makes, tells-state, tells-attempt, play, allowed, played, three-views}
+use Rattle.examples.specs.Examples.{decides, holds, lists, stageOf, eleven, Is, allDecide, CaseEleven}
+use Rattle.examples.proofs.Examples.Play.{Move, hears-state, hears-attempt, starts, makes, tells-state, tells-attempt, play, allowed, played, three-views}
 
 grouped : isGroup 0x1f 1 ≡ true
 unfolding isGroup empty size countBelow foldBelow has

@@ -1,0 +1,1 @@
+// Theorems only: histories that are computed (specs/Examples.antt).
