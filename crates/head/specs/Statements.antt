@@ -3,12 +3,13 @@ use mathlib.Core.Bool.{true}
 use mathlib.Core.Path.{_≡_}
 use mathlib.Core.List.{List, []}
 use Prim.Native.Nat.{ℕ, _<_}
-use lib.ListN.{length}
+use lib.ListN.{length, take}
 use Rattle.group.specs.Answers.{Said, cut, refused}
 use Rattle.store.specs.Desk.{apply}
-use Rattle.store.specs.Changes.{Change, begun}
+use Rattle.store.specs.Changes.{Change, allNonEmpty, allStores, begun}
 use Rattle.record.specs.Whole.{whole}
 use Rattle.recovery.specs.Recover.{mended}
+use Rattle.recovery.specs.Statements.{Sounds}
 use Rattle.plan.specs.Members.{heldOf}
 use Rattle.head.specs.declared.session.Session.{Session}
 use Rattle.head.specs.Session.{noSession}
@@ -109,6 +110,18 @@ storesOf (decide k) = k
 storesOf (form k) = k
 storesOf (write-state out) = 0
 storesOf (write-attempt out) = 0
+
+-- the words that a call leaves are those of the first stores of its changes
+abbrev pub StoresItsChanges : Type 0
+StoresItsChanges = (c : Call) (s : Session) (r : List ℕ) → leaves c s r .words ≡ apply (take (storesOf c) (allStores (changesBy c s r))) r
+
+-- each of its changes stores something
+abbrev pub NoEmptyChange : Type 0
+NoEmptyChange = (c : Call) (s : Session) (r : List ℕ) → allNonEmpty (changesBy c s r) ≡ true
+
+-- and they are changes as recovery completes them
+abbrev pub SoundChanges : Type 0
+SoundChanges = (c : Call) (s : Session) (r : List ℕ) → CallSized c → Good s r → Sounds (changesBy c s r) r
 
 -- "The recovered record is the one after the done changes.": for each number of stores
 abbrev pub RecoversEveryCall : Type 0

@@ -17,7 +17,7 @@ use Rattle.lines.specs.Writing.{attemptFrame, attemptLine, bytes2, bytes4, byte
 use Rattle.record.specs.Layout.{core, entered, formedFor, least, marksAt, number, own, placeAt, primary, settings, storeEntered, storeFormed, storeMarks, storeNumber, storePlace, storePrimary}
 use Rattle.record.specs.Whole.{apart, apartWhole, formedWhole, groupWhole, limitsWhole, marksOk, marksWhole, placeWhole, primaryWhole, topWhole, usedOk, whole, wordsWhole}
 use Rattle.recovery.specs.Cases.{formed, sixStores}
-use Rattle.recovery.specs.Changes.{adoptChange, attemptChange, clearChange, formChange, formedStores, past}
+use Rattle.recovery.specs.Changes.{adoptChange, attemptChange, clearChange, entryChange, formChange, formedStores, past}
 use Rattle.recovery.specs.Recover.{clearStep, formedStep, greatest, mendProgram, mended, raiseStep, wipeStep}
 use Rattle.telling.specs.Telling.{nearer, nextAbove, rising, tells, usedPlaces}
 use Rattle.plan.specs.Adoption.{adoptStep, adopts, bestOffer, offered}
@@ -34,7 +34,7 @@ use Rattle.head.specs.Refusals.{attemptRefusal, decideRefusal, enterRefu
 use Rattle.head.specs.Session.{atStage, noSession, opened, withAttempt, withState}
 
 pub twelve-cases : TwelveCases
-unfolding allBelow anyBelow collect countBelow every firstBelow foldBelow lastBelow table freshRecord freshWord groupWord common either empty has highest less only shared size within blocking enough isGroup majority passes tied formedOk highestOf primaryOk rank sessionWord sound apply whereChanged diffIf putTo run storeIf stored after exec script stepBy upTo broken keepsRules placeOk prior rule4 rule5 rule6 rule7 noState nothingHeld padded four six two words digit hexOf isDigit lineEnd lineOf nib unhex answer breaks carried countOf firstBroken judged kindOf laterBroken readWhole rule1 rule2 rule3 senderOf stateFits stateOf viewOf attemptFrame attemptLine bytes2 bytes4 bytes6 fieldBytes flat headBytes lineFor placeBytes stateFrame stateLine core entered formedFor least marksAt number own placeAt primary settings storeEntered storeFormed storeMarks storeNumber storePlace storePrimary apart apartWhole formedWhole groupWhole limitsWhole marksOk marksWhole placeWhole primaryWhole topWhole usedOk whole wordsWhole formed sixStores adoptChange attemptChange clearChange formChange formedStores past clearStep formedStep greatest mendProgram mended raiseStep wipeStep nearer nextAbove rising tells usedPlaces adoptStep adopts bestOffer offered attemptSession attemptStep attempts decision highestNumber highestPrimary listedWeighed lowestFree numberOf ownWeighed passesFor primaryOf quorate stateWeighed weighed allMarked behind clearStep-of-clearing denies lists toClear afterC decideAnswer decideProgram learning formChanges formStep viewSession adding markStep marked toMark formedWith other decideSpec decidedStage enterSpec entryStep formSpec formsChanges hearAttemptSpec hearStateSpec stores under writeAttemptSpec writeStateSpec writes decided0 decided1 decided2 eleven formed0 formed1 ready2 fits heardFits heldFits placed stageFits stateFits-of-fits usable viewFits attemptRefusal decideRefusal enterRefusal formRefusal hearAttemptRefusal hearStateRefusal stateRefusal writeAttemptRefusal writeStateRefusal atStage noSession opened withAttempt withState
+unfolding allBelow anyBelow collect countBelow every firstBelow foldBelow lastBelow table freshRecord freshWord groupWord common either empty has highest less only shared size within blocking enough isGroup majority passes tied formedOk highestOf primaryOk rank sessionWord sound apply whereChanged diffIf putTo run storeIf stored after exec script stepBy upTo broken keepsRules placeOk prior rule4 rule5 rule6 rule7 noState nothingHeld padded four six two words digit hexOf isDigit lineEnd lineOf nib unhex answer breaks carried countOf firstBroken judged kindOf laterBroken readWhole rule1 rule2 rule3 senderOf stateFits stateOf viewOf attemptFrame attemptLine bytes2 bytes4 bytes6 fieldBytes flat headBytes lineFor placeBytes stateFrame stateLine core entered formedFor least marksAt number own placeAt primary settings storeEntered storeFormed storeMarks storeNumber storePlace storePrimary apart apartWhole formedWhole groupWhole limitsWhole marksOk marksWhole placeWhole primaryWhole topWhole usedOk whole wordsWhole formed sixStores adoptChange attemptChange clearChange entryChange formChange formedStores past clearStep formedStep greatest mendProgram mended raiseStep wipeStep nearer nextAbove rising tells usedPlaces adoptStep adopts bestOffer offered attemptSession attemptStep attempts decision highestNumber highestPrimary listedWeighed lowestFree numberOf ownWeighed passesFor primaryOf quorate stateWeighed weighed allMarked behind clearStep-of-clearing denies lists toClear afterC decideAnswer decideProgram learning formChanges formStep viewSession adding markStep marked toMark formedWith other decideSpec decidedStage enterSpec entryStep formSpec formsChanges hearAttemptSpec hearStateSpec stores under writeAttemptSpec writeStateSpec writes decided0 decided1 decided2 eleven formed0 formed1 ready2 fits heardFits heldFits placed stageFits stateFits-of-fits usable viewFits attemptRefusal decideRefusal enterRefusal formRefusal hearAttemptRefusal hearStateRefusal stateRefusal writeAttemptRefusal writeStateRefusal atStage noSession opened withAttempt withState
 twelve-cases = record {
   one-to-ten = cases-hold;
   case-eleven = refl;
