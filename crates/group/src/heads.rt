@@ -42,6 +42,13 @@ pub fn common(s: u16, t: u16) -> u16
     s & t
 }
 
+// The set as a word.
+pub fn wide(set: u16) -> u64
+    ensures { λ r. ⌜ r ≡ set ⌝ }
+{
+    set as u64
+}
+
 pub fn size(s: u16) -> u32
     ensures { λ r. ⌜ r ≡ size s ⌝ }
 {

@@ -1,8 +1,8 @@
 // c. The places that are cleared because their session was not formed.
 use crate::changes::clear_if;
 use crate::members::is_other;
-use crate::members::wide;
 use group::Group;
+use group::heads::wide;
 use group::heads::without_head;
 use group::words::has_head;
 use group::words::heads_of;

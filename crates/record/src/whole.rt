@@ -12,6 +12,7 @@ use crate::layout::settings;
 use group::Group;
 use group::heads::shared;
 use group::heads::size;
+use group::heads::wide;
 use group::heads::without_head;
 use group::words::formed_ok;
 use group::words::has_head;
@@ -130,12 +131,6 @@ fn top_whole(rec: &[u64]) -> bool
     ensures { λ r. ⌜ r ≡ topWhole (now (rec .entry)) ⌝ }
 {
     number_of(primary(rec)) <= number(rec)
-}
-
-fn wide(set: u16) -> u64
-    ensures { λ r. ⌜ r ≡ set ⌝ }
-{
-    set as u64
 }
 
 // The marks m of place w, for own head.
