@@ -69,5 +69,5 @@ pub fn top_head(set: u16) -> u8
     if set == 0 {
         return 0;
     }
-    (15 - u16::leading_zeros(set)) as u8
+    (Group::LAST as u32 - u16::leading_zeros(set)) as u8
 }

@@ -43,7 +43,7 @@ fn group_whole(rec: &[u64]) -> bool
     requires { ⌜ length (now rec) ≡ 52 ⌝ }
     ensures { λ r. ⌜ r ≡ groupWhole (now (rec .entry)) ⌝ }
 {
-    is_group(core(rec), least(rec)) & (settings(rec) / 16777216 < 16)
+    is_group(core(rec), least(rec)) & (settings(rec) / 16777216 < Group::HEADS as u64)
 }
 
 fn limits_whole(rec: &[u64]) -> bool
@@ -57,7 +57,7 @@ fn limits_whole(rec: &[u64]) -> bool
 pub fn session_word(w: u64) -> bool
     ensures { λ r. ⌜ r ≡ sessionWord w ⌝ }
 {
-    sound(w) & (w < 281474976710656)
+    sound(w) & (number_of(w) <= Group::TOP)
 }
 
 fn primary_whole(rec: &[u64]) -> bool
