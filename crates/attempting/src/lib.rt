@@ -4,6 +4,7 @@ use group::Answer;
 use group::Group;
 use group::quorum::sub_quorum;
 use group::words::heads_of;
+use group::words::larger;
 use group::words::rank_of;
 use group::words::session_of;
 use members::highest_of;
@@ -19,7 +20,7 @@ use state::Held;
 use state::State;
 use store::Pen;
 ghost use mathlib.Core.Path.{_≡_};
-ghost use Prim.Native.Nat.{_<_, max};
+ghost use Prim.Native.Nat.{_<_};
 ghost use lib.ListN.{length};
 ghost use Rattle.loops.specs.Below.{allBelow, table};
 ghost use Rattle.group.specs.Answers.{said};
@@ -29,15 +30,6 @@ ghost use Rattle.state.specs.declared.Held.{Held};
 ghost use Rattle.plan.specs.Members.{heldOf};
 ghost use Rattle.plan.specs.Attempt.{primaryOf, highestNumber, highestPrimary, passesFor, ownWeighed, stateWeighed, listedWeighed, lowestFree, decision, attemptStep};
 ghost use Rattle.plan.specs.Attempt.{weighed as weighedBy, quorate as isQuorate};
-
-fn larger(a: u64, b: u64) -> u64
-    ensures { λ r. ⌜ r ≡ max a b ⌝ }
-{
-    if a < b {
-        return b;
-    }
-    a
-}
 
 fn state_number(st: State) -> u64
     ensures { λ r. ⌜ r ≡ st .number ⌝ }

@@ -42,6 +42,13 @@ pub fn common(s: u16, t: u16) -> u16
     s & t
 }
 
+// The set as a word.
+pub fn wide(set: u16) -> u64
+    ensures { λ r. ⌜ r ≡ set ⌝ }
+{
+    set as u64
+}
+
 pub fn size(s: u16) -> u32
     ensures { λ r. ⌜ r ≡ size s ⌝ }
 {
@@ -62,5 +69,5 @@ pub fn top_head(set: u16) -> u8
     if set == 0 {
         return 0;
     }
-    (15 - u16::leading_zeros(set)) as u8
+    (Group::LAST as u32 - u16::leading_zeros(set)) as u8
 }

@@ -1,6 +1,6 @@
 // Session words: heads in bits 0 to 15, the number above; 0 for none.
 ghost use mathlib.Core.Path.{_≡_};
-ghost use Prim.Native.Nat.{_<_};
+ghost use Prim.Native.Nat.{_<_, max};
 ghost use Rattle.group.specs.Heads.{has, within};
 ghost use Rattle.group.specs.Words.{heads, num, session, rank, primaryOk, formedOk};
 ghost use Rattle.group.specs.Words.{sound as soundOf};
@@ -23,6 +23,16 @@ pub fn session_of(number: u64, set: u16) -> u64
     ensures { λ r. ⌜ r ≡ session number set ⌝ }
 {
     number * 65536 + set as u64
+}
+
+// The larger of two numbers.
+pub fn larger(a: u64, b: u64) -> u64
+    ensures { λ r. ⌜ r ≡ max a b ⌝ }
+{
+    if a < b {
+        return b;
+    }
+    a
 }
 
 // 0 for none, else the number and one: the order of numbers, with none below all.

@@ -8,7 +8,8 @@ use Rattle.group.specs.Answers.{Said, said, entered, heard, formed, written, cu
 use Rattle.store.specs.Desk.{Desk, desk, budget}
 use Rattle.store.specs.Program.{Step, exec}
 use Rattle.store.specs.Changes.{Change}
-use Rattle.record.specs.Layout.{own, storeEntered}
+use Rattle.record.specs.Layout.{own}
+use Rattle.recovery.specs.Changes.{entryChange}
 use Rattle.lines.specs.Reading.{readWhole}
 use Rattle.lines.specs.Writing.{stateLine, attemptLine}
 use Rattle.lines.specs.declared.Line.{Line}
@@ -47,7 +48,7 @@ stores program r k answer s = under (exec program (desk r (budget k))) answer s
 
 -- "Enter (view, heads M): stores word 1, ends any session, opens one."
 unfoldable pub entryStep : ℕ → Step
-entryStep view r = storeEntered view ∷ []
+entryStep view r = entryChange view
 
 unfoldable pub enterSpec : Session → List ℕ → ℕ → ℕ → ℕ → Ended
 enterSpec s r view m k =
@@ -123,7 +124,7 @@ writeAttemptSpec s r out = writes (writeAttemptRefusal s r (length out)) s (atte
 
 -- the changes of each call that stores, none where it is refused: "Enter: word 1, one change."
 unfoldable pub enterChanges : Session → List ℕ → ℕ → ℕ → List Change
-enterChanges s r view m = cond (eqb (enterRefusal s r view m) 0) ((storeEntered view ∷ []) ∷ []) []
+enterChanges s r view m = cond (eqb (enterRefusal s r view m) 0) (entryChange view ∷ []) []
 
 unfoldable pub decidesChanges : Session → List ℕ → List Change
 decidesChanges s r = cond (eqb (decideRefusal s r) 0) (decideChanges (s .members) (s .held) r) []

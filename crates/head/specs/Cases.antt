@@ -1,8 +1,8 @@
--- Document 01, "Examples of both sides": "Cases 1 to 12 are one table of the definitions and one theorem over it". Cases 1 to 10 are group's; here are 11 and 12,
--- as calls from fresh records. W0 is 001f and Q is 1.
+-- Document 01, "Examples of both sides": "Cases 1 to 12 are one table of the definitions and one theorem over it". Cases 1 to 10 are quorum tests, the table of crate
+-- group; 11 and 12 are calls of heads from fresh records. W0 is 001f; Q is 1 in 11 and 12.
 use mathlib.Core.Path.{_≡_}
-use mathlib.Core.List.{List, [], _∷_, map}
-use Prim.Native.Nat.{ℕ, _+_}
+use mathlib.Core.List.{List, [], _∷_, _++_, map}
+use Prim.Native.Nat.{ℕ, suc, _+_}
 use lib.ListN.{take, replicate}
 use Rattle.group.specs.Answers.{Said, Verdict, started, attempted, no-quorum, formed, cut}
 use Rattle.group.specs.Fresh.{freshRecord}
@@ -15,6 +15,33 @@ use Rattle.lines.specs.Hex.{lineEnd}
 use Rattle.head.specs.Session.{noSession}
 use Rattle.head.specs.Calls.{formsChanges}
 use Rattle.head.specs.Statements.{Call, enter, hear-state, hear-attempt, decide, form, write-state, write-attempt, Left, leaves}
+
+-- what can be seen of a case: a quorum test's verdict; a head after a call, by the answer, last primary and the first place; the changes of a call; an answer; the
+-- words of a record
+pub data Seen : Type 0 where
+  verdict : Verdict → Seen
+  head : Said → ℕ → ℕ → Seen
+  changes : List Change → Seen
+  answer : Said → Seen
+  words : List ℕ → Seen
+
+-- a row of the table: the case, what the definitions give, what document 01 says
+pub record Row : Type 0 where
+  pub case : ℕ
+  pub gives : Seen
+  pub says : Seen
+
+abbrev row : ℕ → Seen → Seen → Row
+row n g s = record { case = n; gives = g; says = s }
+
+-- ---- 1 to 10
+
+-- the cases of crate group, from case n on
+unfoldable pub quorumRows : ℕ → List Case → List Row
+quorumRows n [] = []
+quorumRows n (c ∷ cs) = row n (verdict (answered c)) (verdict (c .answer)) ∷ quorumRows (suc n) cs
+
+-- ---- 11 and 12: the heads and their calls
 
 -- "all heads fresh"
 abbrev fresh : ℕ → Left
@@ -73,55 +100,42 @@ second l = enters 2 0x3 l
 abbrev third : Left → Left
 third l = enters 3 0x1c l
 
--- a head after its call: the answer, last primary, the first place
-pub record Row : Type 0 where
-  pub left : Left
-  pub answer : Said
-  pub primary : ℕ
-  pub place : ℕ
-
-abbrev row : Left → Said → ℕ → ℕ → Row
-row l a p w = record { left = l; answer = a; primary = p; place = w }
-
-unfoldable pub eleven : List Row
-eleven =
-    row decided0 attempted 0x1f 0x10007
-    ∷ row decided1 attempted 0x1f 0x10007
-    ∷ row decided2 attempted 0x1f 0x10007
-    ∷ row formed0 formed 0x10007 0
-    ∷ row formed1 formed 0x10007 0
-    ∷ row (decides (hears (second formed1) (second formed0))) attempted 0x10007 0x20003
-    ∷ row (decides (hears (second formed0) (second formed1))) attempted 0x10007 0x20003
-    ∷ row (decides (hears (third (fresh 4)) (hears (third (fresh 3)) (third decided2)))) no-quorum 0x1f 0x10007
-    ∷ row (decides (hears (third (fresh 4)) (hears (third decided2) (third (fresh 3))))) no-quorum 0x1f 0
-    ∷ row (decides (hears (third (fresh 3)) (hears (third decided2) (third (fresh 4))))) no-quorum 0x1f 0
-    ∷ []
-
--- what the calls gave, and what the table says
-pub record Seen : Type 0 where
-  pub answer : Said
-  pub primary : ℕ
-  pub place : ℕ
-
-abbrev pub seen : Row → Seen
-seen x = record { answer = x .left .answer; primary = primary (x .left .words); place = placeAt (x .left .words) 0 }
-
-abbrev pub expected : Row → Seen
-expected x = record { answer = x .answer; primary = x .primary; place = x .place }
-
 -- "Had head 2 formed in view 1": it has heard both attempts
 unfoldable pub ready2 : Left
 ready2 = hearsAttempt decided1 (hearsAttempt decided0 decided2)
 
--- "its words 3, 4, 5, 6 become 10007 hex, words 20 and 36 are stored as 0. Cut after the first of the six stores, recovery gives the same record."
-pub record Twelve : Type 0 where
-  pub stores : formsChanges (ready2 .session) (ready2 .words) ≡ sixStores ∷ []
-  pub answers : then (form 6) ready2 .answer ≡ formed
-  pub leaves-it : then (form 6) ready2 .words ≡ formedWords
-  pub short : then (form 1) ready2 .answer ≡ cut
-  pub recovers : mended (then (form 1) ready2 .words) ≡ formedWords
+abbrev seen : Left → Seen
+seen l = head (l .answer) (primary (l .words)) (placeAt (l .words) 0)
 
-pub record TwelveCases : Type 0 where
-  pub one-to-ten : map answered cases ≡ map (λ (c : Case). c .answer) cases
-  pub case-eleven : map seen eleven ≡ map expected eleven
-  pub case-twelve : Twelve
+-- ---- the table
+
+unfoldable pub caseTable : List Row
+caseTable =
+    quorumRows 1 cases
+    ++ (row 11 (seen decided0) (head attempted 0x1f 0x10007)
+    ∷ row 11 (seen decided1) (head attempted 0x1f 0x10007)
+    ∷ row 11 (seen decided2) (head attempted 0x1f 0x10007)
+    ∷ row 11 (seen formed0) (head formed 0x10007 0)
+    ∷ row 11 (seen formed1) (head formed 0x10007 0)
+    ∷ row 11 (seen (decides (hears (second formed1) (second formed0)))) (head attempted 0x10007 0x20003)
+    ∷ row 11 (seen (decides (hears (second formed0) (second formed1)))) (head attempted 0x10007 0x20003)
+    ∷ row 11 (seen (decides (hears (third (fresh 4)) (hears (third (fresh 3)) (third decided2))))) (head no-quorum 0x1f 0x10007)
+    ∷ row 11 (seen (decides (hears (third (fresh 4)) (hears (third decided2) (third (fresh 3)))))) (head no-quorum 0x1f 0)
+    ∷ row 11 (seen (decides (hears (third (fresh 3)) (hears (third decided2) (third (fresh 4)))))) (head no-quorum 0x1f 0)
+    -- "its words 3, 4, 5, 6 become 10007 hex, words 20 and 36 are stored as 0"
+    ∷ row 12 (changes (formsChanges (ready2 .session) (ready2 .words))) (changes (sixStores ∷ []))
+    ∷ row 12 (answer (then (form 6) ready2 .answer)) (answer formed)
+    ∷ row 12 (words (then (form 6) ready2 .words)) (words formedWords)
+    -- "Cut after the first of the six stores, recovery gives the same record."
+    ∷ row 12 (answer (then (form 1) ready2 .answer)) (answer cut)
+    ∷ row 12 (words (mended (then (form 1) ready2 .words))) (words formedWords)
+    ∷ [])
+
+abbrev pub given : List Row → List Seen
+given rows = map (λ (x : Row). x .gives) rows
+
+abbrev pub expected : List Row → List Seen
+expected rows = map (λ (x : Row). x .says) rows
+
+abbrev pub TwelveCases : Type 0
+TwelveCases = given caseTable ≡ expected caseTable

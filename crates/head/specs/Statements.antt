@@ -3,17 +3,19 @@ use mathlib.Core.Bool.{true}
 use mathlib.Core.Path.{_≡_}
 use mathlib.Core.List.{List, []}
 use Prim.Native.Nat.{ℕ, _<_}
-use lib.ListN.{length}
+use lib.ListN.{length, take}
 use Rattle.group.specs.Answers.{Said, cut, refused}
 use Rattle.store.specs.Desk.{apply}
-use Rattle.store.specs.Changes.{Change, begun}
+use Rattle.store.specs.Changes.{Change, allNonEmpty, allStores, begun}
 use Rattle.record.specs.Whole.{whole}
 use Rattle.recovery.specs.Recover.{mended}
+use Rattle.recovery.specs.Statements.{Sounds}
 use Rattle.plan.specs.Members.{heldOf}
 use Rattle.head.specs.declared.session.Session.{Session}
+use Rattle.head.specs.declared.session.Next.{Next}
 use Rattle.head.specs.Session.{noSession}
 use Rattle.head.specs.Fits.{fits}
-use Rattle.head.specs.Calls.{Ended, Wrote, enterSpec, hearStateSpec, hearAttemptSpec, decideSpec, formSpec, writeStateSpec, writeAttemptSpec, enterChanges, decidesChanges, formsChanges}
+use Rattle.head.specs.Calls.{Ended, ended, Wrote, wrote, enterSpec, hearStateSpec, hearAttemptSpec, decideSpec, formSpec, writeStateSpec, writeAttemptSpec, enterChanges, decidesChanges, formsChanges}
 
 -- a call and what it is given beside the session and the record: the view, the heads M and the stores of an entry, the line heard, the stores, the output
 pub data Call : Type 0 where
@@ -52,6 +54,20 @@ outputOf (decide k) = []
 outputOf (form k) = []
 outputOf (write-state out) = out
 outputOf (write-attempt out) = out
+
+-- what the contract of a call's code says of the words (of a writing call the output) v and the answer and session x that it left
+abbrev pub Allowed : Call → Session → List ℕ → List ℕ → Next → Type 0
+Allowed (enter view m k) s r v x = ended v x ≡ enterSpec s r view m k
+Allowed (hear-state line) s r v x = ended v x ≡ hearStateSpec s r line
+Allowed (hear-attempt line) s r v x = ended v x ≡ hearAttemptSpec s r line
+Allowed (decide k) s r v x = ended v x ≡ decideSpec s r k
+Allowed (form k) s r v x = ended v x ≡ formSpec s r k
+Allowed (write-state out) s r v x = wrote v x ≡ writeStateSpec s r out
+Allowed (write-attempt out) s r v x = wrote v x ≡ writeAttemptSpec s r out
+
+-- "prove that two outcomes allowed by it are equal"
+abbrev pub Determined : Type 0
+Determined = (c : Call) (s : Session) (r v w : List ℕ) (x y : Next) → Allowed c s r v x → Allowed c s r w y → (v ≡ w) × (x ≡ y)
 
 -- "Numbers a refused call returns": "Record, session and output buffer keep their contents."
 abbrev pub RefusedKeeps : Type 0
@@ -109,6 +125,18 @@ storesOf (decide k) = k
 storesOf (form k) = k
 storesOf (write-state out) = 0
 storesOf (write-attempt out) = 0
+
+-- the words that a call leaves are those of the first stores of its changes
+abbrev pub StoresItsChanges : Type 0
+StoresItsChanges = (c : Call) (s : Session) (r : List ℕ) → leaves c s r .words ≡ apply (take (storesOf c) (allStores (changesBy c s r))) r
+
+-- each of its changes stores something
+abbrev pub NoEmptyChange : Type 0
+NoEmptyChange = (c : Call) (s : Session) (r : List ℕ) → allNonEmpty (changesBy c s r) ≡ true
+
+-- and they are changes as recovery completes them
+abbrev pub SoundChanges : Type 0
+SoundChanges = (c : Call) (s : Session) (r : List ℕ) → CallSized c → Good s r → Sounds (changesBy c s r) r
 
 -- "The recovered record is the one after the done changes.": for each number of stores
 abbrev pub RecoversEveryCall : Type 0

@@ -12,9 +12,9 @@ use Rattle.loops.proofs.Laws.Truth.{cond-elim, and-both}
 use Rattle.group.specs.Answers.{Said, recovered, entered, formed, refused}
 use Rattle.store.specs.Desk.{Store, desk, budget, apply}
 use Rattle.store.specs.Program.{Step, exec, script}
-use Rattle.store.specs.Changes.{Change, allStores, begun}
+use Rattle.store.specs.Changes.{Change, allNonEmpty, allStores, begun}
 use Rattle.store.proofs.Laws.Program.{exec-take}
-use Rattle.record.specs.Layout.{own, storeEntered}
+use Rattle.record.specs.Layout.{own}
 use Rattle.record.specs.Whole.{whole}
 use Rattle.recovery.specs.Recover.{mendProgram, mended, mendable, recoverSpec}
 use Rattle.recovery.specs.Changes.{entryChange}
@@ -32,6 +32,8 @@ use Rattle.head.specs.Session.{noSession, opened, atStage}
 use Rattle.head.specs.Fits.{fits, usable}
 use Rattle.head.specs.Refusals.{enterRefusal, hearStateRefusal, hearAttemptRefusal, decideRefusal, formRefusal, writeStateRefusal, writeAttemptRefusal}
 use Rattle.head.specs.Calls.{Ended, under, stores, entryStep, decidedStage, refuses, writes, enterSpec, hearStateSpec, hearAttemptSpec, decideSpec, formSpec, writeStateSpec, writeAttemptSpec, enterChanges, decidesChanges, formsChanges}
+use Rattle.head.specs.Statements as one
+use Rattle.head.proofs.Laws.Every.{no-empty-change}
 use Rattle.head.proofs.Laws.Refusals.{may-enter, may-decide, may-form}
 use Rattle.head.proofs.Laws.Fits.{usable-whole, make-usable, none-fits, make-fits}
 use Rattle.history.specs.Setting.{Setting}
@@ -67,7 +69,7 @@ by-refusal n fs r k a s s′ cs f g = go (eqb n 0) refl
         ap mended (stores-words fs r k a s) ∙ f z ∙ ap (apply (begun k cs)) (sym (mended-whole r (g z)))
     go false e = nothing-begun k (mended r)
 
-entry-cut : (r : List ℕ) (v k : ℕ) → whole r ≡ true → v < 4294967296 → mended (exec (entryStep v ∷ []) (desk r (budget k)) .rec) ≡ apply (begun k ((storeEntered v ∷ []) ∷ [])) r
+entry-cut : (r : List ℕ) (v k : ℕ) → whole r ≡ true → v < 4294967296 → mended (exec (entryStep v ∷ []) (desk r (budget k)) .rec) ≡ apply (begun k (entryChange v ∷ [])) r
 unfolding script allStores entryStep entryChange
 entry-cut r v k e h = ap mended (exec-take (entryStep v ∷ []) k r) ∙ recovers-done (entryChange v ∷ []) r (sounds-one (entryChange v) r (entry-sound r v e (omega arith))) k
 
@@ -75,7 +77,7 @@ module _ (S : Setting) (p k : ℕ) (r : List ℕ) (s : Session) (i : Runs S p r 
   enter-done : (v : ℕ) → v < 4294967296 → mended (enterSpec s r v (S .members v) k .words) ≡ apply (begun k (enterChanges s r v (S .members v))) (mended r)
   unfolding enterSpec enterChanges
   enter-done v h =
-      by-refusal (enterRefusal s r v (S .members v)) (entryStep v ∷ []) r k entered (opened (own r) v (S .members v)) s ((storeEntered v ∷ []) ∷ [])
+      by-refusal (enterRefusal s r v (S .members v)) (entryStep v ∷ []) r k entered (opened (own r) v (S .members v)) s (entryChange v ∷ [])
       (λ z. entry-cut r v k (usable-whole s r (may-enter s r v (S .members v) z .fit)) h) (λ z. usable-whole s r (may-enter s r v (S .members v) z .fit))
 
   form-done : mended (formSpec s r k .words) ≡ apply (begun k (formsChanges s r)) (mended r)
@@ -108,6 +110,18 @@ module _ (S : Setting) (p k : ℕ) (r : List ℕ) (s : Session) (i : Runs S p r 
   call-done W (write-state out) g = nothing-begun k (mended r)
   call-done W (write-attempt out) g = nothing-begun k (mended r)
 
+-- each change of a call stores something
+changes-stored : (S : Setting) (r : List ℕ) (s : Session) (c : Call) → allNonEmpty (changes S c r s) ≡ true
+unfolding allNonEmpty
+changes-stored S r s (enter v) = no-empty-change (one.enter v (S .members v) 0) s r
+changes-stored S r s (hear-state b) = refl
+changes-stored S r s (hear-attempt b) = refl
+changes-stored S r s decide = no-empty-change (one.decide 0) s r
+changes-stored S r s form = no-empty-change (one.form 0) s r
+changes-stored S r s recover = refl
+changes-stored S r s (write-state out) = refl
+changes-stored S r s (write-attempt out) = refl
+
 -- ---- the statements
 
 given-runs : (S : Setting) (p : ℕ) (lost : Bool) (r : List ℕ) (s : Session) → Runs S p r s → Runs S p r (given lost s)
@@ -138,6 +152,7 @@ pub recovers-proved : (S : Setting) → recovers S
 recovers-proved S W h p k lost c g r s at =
     let i : Runs S p r s = runs-at S (groupIn S) (reading S) p W r s at (fine S h) in
     record {
+      stores = changes-stored S r (given lost s) c;
       done = call-done S p k r (given lost s) (given-runs S p lost r s i) W c g;
       again = again (leaves S c k r (given lost s));
       ends = λ j q. ends-recovered (leaves S c k r (given lost s)) j q .0;

@@ -10,7 +10,7 @@ use Rattle.group.specs.Answers.{Said, started, recovered, entered, heard, attem
 use Rattle.group.specs.Heads.{Share}
 use Rattle.group.specs.Words.{num}
 use Rattle.store.specs.Desk.{apply}
-use Rattle.store.specs.Changes.{Change, begun}
+use Rattle.store.specs.Changes.{Change, allNonEmpty, begun}
 use Rattle.record.specs.Layout.{primary}
 use Rattle.record.specs.Start.{startSpec, takenLeast}
 use Rattle.record.specs.Whole.{whole}
@@ -241,9 +241,10 @@ pub record Ordered (S : Setting) (L : List ℕ) : Type 0 where
 
 -- ---- recovery
 
--- after a call with k stores at most on record r that leaves x: recovery gives the record of the changes done; cut and run again it ends the same; and it
--- ends, with 49 stores or more: word 2, 16 last formed words, 16 session words and 16 marks words at most change
+-- after a call with k stores at most on record r that leaves x, and whose changes cs each store something: recovery gives the record of the changes done; cut
+-- and run again it ends the same; and it ends, with 49 stores or more: word 2, 16 last formed words, 16 session words and 16 marks words at most change
 pub record Recovers (r x : List ℕ) (k : ℕ) (cs : List Change) : Type 0 where
+  pub stores : allNonEmpty cs ≡ true
   pub done : mended x ≡ apply (begun k cs) (mended r)
   pub again : (j : ℕ) → mended (recoverSpec x j .rec) ≡ mended x
   pub ends : (j : ℕ) → recoverSpec x j .answer ≡ recovered → recoverSpec x j .rec ≡ mended x

@@ -1,5 +1,6 @@
 // The members of the view: own head, and the others.
 use group::Group;
+use group::heads::wide;
 use group::words::has_head;
 use group::words::rank_of;
 ghost use mathlib.Core.Path.{_≡_};
@@ -9,12 +10,6 @@ ghost use lib.Dec.{eqb, ltb};
 ghost use lib.ListN.{getD};
 ghost use Rattle.group.specs.Heads.{has};
 ghost use Rattle.group.specs.Words.{rank, highestOf};
-
-pub fn wide(m: u16) -> u64
-    ensures { λ r. ⌜ r ≡ m ⌝ }
-{
-    m as u64
-}
 
 // Head q is a member.
 pub fn is_member(m: u16, q: usize) -> bool

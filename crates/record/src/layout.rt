@@ -1,4 +1,5 @@
 // Which word of the record holds what: its fields, and their stores under a pen. No other file knows it.
+use group::Group;
 use store::Pen;
 use store::change;
 use store::put;
@@ -39,7 +40,7 @@ pub fn own(rec: &[u64]) -> usize
     requires { ⌜ length (now rec) ≡ 52 ⌝ }
     ensures { λ r. ⌜ (r ≡ own (now (rec .entry))) × (r < 16) ⌝ }
 {
-    (rec[0] / 16777216 % 16) as usize
+    (rec[0] / 16777216 % Group::HEADS as u64) as usize
 }
 
 // The highest view entered.

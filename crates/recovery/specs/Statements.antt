@@ -12,7 +12,7 @@ use Rattle.group.specs.Answers.{recovered}
 use Rattle.group.specs.Quorum.{enough}
 use Rattle.store.specs.Desk.{apply}
 use Rattle.store.specs.Program.{script}
-use Rattle.store.specs.Changes.{Change, allStores, begun}
+use Rattle.store.specs.Changes.{Change, nonEmpty, allStores, begun}
 use Rattle.record.specs.Layout.{core, least, own, number, primary, placeAt}
 use Rattle.record.specs.Whole.{marksOk, whole}
 use Rattle.record.specs.Outcome.{outcome}
@@ -40,9 +40,10 @@ Determined =
 
 -- ---- one change
 
--- a change of a whole record: once its first word is stored recovery gives exactly the record after it, which is whole
+-- a change of a whole record: it has a first word, and once that is stored recovery gives exactly the record after it, which is whole
 pub record Sound (r : List ℕ) (c : Change) : Type 0 where
   pub before : whole r ≡ true
+  pub stores : nonEmpty c ≡ true
   pub cut : (k : ℕ) → mended (apply (take (suc k) c) r) ≡ apply c r
   pub after : whole (apply c r) ≡ true
 

@@ -3,6 +3,7 @@ use group::Answer;
 use group::Group;
 use group::Refusal;
 use group::words::has_head;
+use group::words::larger;
 use group::words::number_of;
 use group::words::rank_of;
 use record::layout::change_formed;
@@ -15,19 +16,13 @@ use record::layout::primary;
 use store::Pen;
 use whole::is_whole;
 ghost use mathlib.Core.Path.{_≡_};
-ghost use Prim.Native.Nat.{_<_, max};
+ghost use Prim.Native.Nat.{_<_};
 ghost use lib.ListN.{length};
 ghost use Rattle.store.specs.Desk.{desk};
 ghost use Rattle.store.specs.Program.{stepBy, exec, upTo};
 ghost use Rattle.record.specs.Whole.{whole};
 ghost use Rattle.record.specs.Outcome.{outcome};
 ghost use Rattle.recovery.specs.Recover.{greatest, raiseStep, formedStep, clearStep, wipeStep, mendProgram, mended, recoverSpec};
-
-fn larger(a: u64, b: u64) -> u64
-    ensures { λ r. ⌜ r ≡ max a b ⌝ }
-{
-    if a < b { b } else { a }
-}
 
 // The greatest number in the record.
 fn greatest(rec: &[u64]) -> u64

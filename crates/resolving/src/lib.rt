@@ -1,13 +1,13 @@
 // c. The places that are cleared because their session was not formed.
 use changes::clear_if;
 use group::Group;
+use group::heads::wide;
 use group::heads::without_head;
 use group::words::has_head;
 use group::words::heads_of;
 use group::words::lies_in;
 use group::words::rank_of;
 use members::is_other;
-use members::wide;
 use record::layout::marks_at;
 use record::layout::own;
 use record::layout::place_at;

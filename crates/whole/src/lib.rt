@@ -2,6 +2,7 @@
 use group::Group;
 use group::heads::shared;
 use group::heads::size;
+use group::heads::wide;
 use group::heads::without_head;
 use group::words::formed_ok;
 use group::words::has_head;
@@ -42,7 +43,7 @@ fn group_whole(rec: &[u64]) -> bool
     requires { ⌜ length (now rec) ≡ 52 ⌝ }
     ensures { λ r. ⌜ r ≡ groupWhole (now (rec .entry)) ⌝ }
 {
-    is_group(core(rec), least(rec)) & (settings(rec) / 16777216 < 16)
+    is_group(core(rec), least(rec)) & (settings(rec) / 16777216 < Group::HEADS as u64)
 }
 
 fn limits_whole(rec: &[u64]) -> bool
@@ -56,7 +57,7 @@ fn limits_whole(rec: &[u64]) -> bool
 pub fn session_word(w: u64) -> bool
     ensures { λ r. ⌜ r ≡ sessionWord w ⌝ }
 {
-    sound(w) & (w < 281474976710656)
+    sound(w) & (number_of(w) <= Group::TOP)
 }
 
 fn primary_whole(rec: &[u64]) -> bool
@@ -130,12 +131,6 @@ fn top_whole(rec: &[u64]) -> bool
     ensures { λ r. ⌜ r ≡ topWhole (now (rec .entry)) ⌝ }
 {
     number_of(primary(rec)) <= number(rec)
-}
-
-fn wide(set: u16) -> u64
-    ensures { λ r. ⌜ r ≡ set ⌝ }
-{
-    set as u64
 }
 
 // The marks m of place w, for own head.

@@ -12,6 +12,7 @@ use Rattle.group.specs.Answers.{Said, refusalNumber, entered, attempted, formed
 use Rattle.store.specs.Desk.{Desk, desk, budget, putTo, run}
 use Rattle.store.specs.Program.{exec, stepBy}
 use Rattle.record.specs.Layout.{own, storeEntered}
+use Rattle.recovery.specs.Changes.{entryChange}
 use Rattle.plan.specs.Attempt.{attempts}
 use Rattle.plan.specs.Decide.{afterC, decideProgram, decideAnswer}
 use Rattle.plan.specs.Form.{formStep}
@@ -50,7 +51,7 @@ module _ (s : Session) (r : List ℕ) (view m k : ℕ) where
   enter-refused why e = refused-by why _ _ (λ n. refuses n r s) e
 
   pub enter-done : (d : Desk) → enterRefusal s r view m ≡ 0 → d ≡ putTo (storeEntered view) (desk r (budget k)) → enterSpec s r view m k ≡ under d entered (opened (own r) view m)
-  unfolding enterSpec stores exec stepBy entryStep run
+  unfolding enterSpec stores exec stepBy entryStep entryChange run
   enter-done d e f = allowed-by (enterRefusal s r view m) _ _ e ∙ rw f
 
 -- a cut says nothing of the answer, nor of the session that would have been

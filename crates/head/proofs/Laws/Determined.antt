@@ -7,6 +7,7 @@ use Rattle.group.proofs.Laws.Answers.{said-one}
 use Rattle.head.specs.declared.session.Session.{Session}
 use Rattle.head.specs.declared.session.Next.{Next}
 use Rattle.head.specs.Calls.{Ended, ended, Wrote, wrote, enterSpec, hearStateSpec, hearAttemptSpec, decideSpec, formSpec, writeStateSpec, writeAttemptSpec}
+use Rattle.head.specs.Statements.{enter, hear-state, hear-attempt, decide, form, write-state, write-attempt, Determined}
 
 one-next : (x y : Next) → x .answer ≡ y .answer → x .session ≡ y .session → x ≡ y
 one-next x y e f = ap₂ (λ (a : Answer) (s : Session). record { answer = a; session = s }) e f
@@ -25,24 +26,11 @@ one-writing e v w x y a b =
       one-next x y (said-one (x .answer) (y .answer) (ap (λ (u : Wrote). u .answer) c)) (ap (λ (u : Wrote). u .session) c),
     )
 
-module _ (s : Session) (r v w : List ℕ) (x y : Next) where
-  pub enter-determined : (view m k : ℕ) → ended v x ≡ enterSpec s r view m k → ended w y ≡ enterSpec s r view m k → (v ≡ w) × (x ≡ y)
-  enter-determined view m k = one-ending (enterSpec s r view m k) v w x y
-
-  pub hear-state-determined : (line : List ℕ) → ended v x ≡ hearStateSpec s r line → ended w y ≡ hearStateSpec s r line → (v ≡ w) × (x ≡ y)
-  hear-state-determined line = one-ending (hearStateSpec s r line) v w x y
-
-  pub hear-attempt-determined : (line : List ℕ) → ended v x ≡ hearAttemptSpec s r line → ended w y ≡ hearAttemptSpec s r line → (v ≡ w) × (x ≡ y)
-  hear-attempt-determined line = one-ending (hearAttemptSpec s r line) v w x y
-
-  pub decide-determined : (k : ℕ) → ended v x ≡ decideSpec s r k → ended w y ≡ decideSpec s r k → (v ≡ w) × (x ≡ y)
-  decide-determined k = one-ending (decideSpec s r k) v w x y
-
-  pub form-determined : (k : ℕ) → ended v x ≡ formSpec s r k → ended w y ≡ formSpec s r k → (v ≡ w) × (x ≡ y)
-  form-determined k = one-ending (formSpec s r k) v w x y
-
-  pub write-state-determined : (out : List ℕ) → wrote v x ≡ writeStateSpec s r out → wrote w y ≡ writeStateSpec s r out → (v ≡ w) × (x ≡ y)
-  write-state-determined out = one-writing (writeStateSpec s r out) v w x y
-
-  pub write-attempt-determined : (out : List ℕ) → wrote v x ≡ writeAttemptSpec s r out → wrote w y ≡ writeAttemptSpec s r out → (v ≡ w) × (x ≡ y)
-  write-attempt-determined out = one-writing (writeAttemptSpec s r out) v w x y
+pub determined : Determined
+determined (enter view m k) s r v w x y = one-ending (enterSpec s r view m k) v w x y
+determined (hear-state line) s r v w x y = one-ending (hearStateSpec s r line) v w x y
+determined (hear-attempt line) s r v w x y = one-ending (hearAttemptSpec s r line) v w x y
+determined (decide k) s r v w x y = one-ending (decideSpec s r k) v w x y
+determined (form k) s r v w x y = one-ending (formSpec s r k) v w x y
+determined (write-state out) s r v w x y = one-writing (writeStateSpec s r out) v w x y
+determined (write-attempt out) s r v w x y = one-writing (writeAttemptSpec s r out) v w x y

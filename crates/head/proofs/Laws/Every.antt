@@ -7,21 +7,21 @@ use Prim.Native.Nat.{ℕ, _<_}
 use native.Mathlib.Omega.{arith}
 use lib.Dec.{eqb, leb}
 use lib.ListN.{length, take, drop}
+use lib.Seq.{take-all}
 use borrow.Author.Tests.{eqb-true}
 use Rattle.loops.proofs.Laws.Truth.{cond-elim, clash, passes-or-fails}
 use Rattle.group.specs.Answers.{Said, started, recovered, entered, heard, attempted, no-quorum, numbers-run-out, no-place, formed, cut, written, refused}
 use Rattle.store.specs.Desk.{Desk, Store, desk, budget, apply, stored}
 use Rattle.store.specs.Program.{Step, script, after, exec}
-use Rattle.store.specs.Changes.{Change, begun, changesOf}
+use Rattle.store.specs.Changes.{Change, nonEmpty, allNonEmpty, allStores, stepStores}
 use Rattle.store.proofs.Laws.Script.{run-uncut}
 use Rattle.store.proofs.Laws.Program.{exec-run, exec-take, after-one}
-use Rattle.store.proofs.Laws.Changes.{changes-script}
+use Rattle.store.proofs.Laws.Changes.{changes-nonempty, steps-script, changes-script}
 use Rattle.record.specs.Layout.{own, storeEntered}
-use Rattle.record.specs.Whole.{whole}
 use Rattle.recovery.specs.Recover.{mended}
-use Rattle.recovery.specs.Changes.{entryChange}
+use Rattle.recovery.specs.Changes.{entryChange, formChange}
+use Rattle.recovery.specs.Statements.{Sounds, Sounds.last as last}
 use Rattle.recovery.proofs.Laws.Small.{entry-sound}
-use Rattle.recovery.proofs.Laws.Still.{mended-whole}
 use Rattle.recovery.proofs.Laws.Sounds.{sounds-one}
 use Rattle.recovery.proofs.Laws.Cut.{recovers-done}
 use Rattle.state.specs.declared.Held.{Held}
@@ -31,14 +31,14 @@ use Rattle.lines.specs.Reading.{readWhole}
 use Rattle.plan.specs.Attempt.{highestNumber, quorate, lowestFree, decision}
 use Rattle.plan.specs.Decide.{afterC, decideProgram, decideAnswer, decideChanges}
 use Rattle.plan.specs.Form.{formStep, formChanges}
-use Rattle.plan.proofs.Laws.Decide.{decide-cut, decide-whole}
-use Rattle.plan.proofs.Laws.Form.{form-cut, form-whole}
+use Rattle.plan.proofs.Laws.Decide.{decide-sounds, decide-whole}
+use Rattle.plan.proofs.Laws.Form.{form-sounds, form-whole}
 use Rattle.head.specs.declared.session.Session.{Session}
 use Rattle.head.specs.Session.{noSession, opened, withState, withAttempt, atStage}
 use Rattle.head.specs.Fits.{usable}
 use Rattle.head.specs.Refusals.{enterRefusal, hearStateRefusal, hearAttemptRefusal, decideRefusal, formRefusal, stateRefusal, attemptRefusal, ofStateLine, ofAttemptLine}
 use Rattle.head.specs.Calls.{Ended, refuses, under, stores, entryStep, heardState, heardAttempt, decidedStage, enterSpec, hearStateSpec, hearAttemptSpec, decideSpec, formSpec, Wrote, writes, writeStateSpec, writeAttemptSpec, enterChanges, decidesChanges, formsChanges}
-use Rattle.head.specs.Statements.{enter, hear-state, hear-attempt, decide, form, write-state, write-attempt, ending, writing, Good, RefusedKeeps, CutLeavesNone, KeptByEveryCall, RecoversEveryCall}
+use Rattle.head.specs.Statements.{changesBy, storesOf, enter, hear-state, hear-attempt, decide, form, write-state, write-attempt, ending, writing, Good, RefusedKeeps, CutLeavesNone, KeptByEveryCall, StoresItsChanges, NoEmptyChange, SoundChanges, RecoversEveryCall}
 use Rattle.head.proofs.Laws.Fits.{Fitting, make-usable, fits-parts, make-fits}
 use Rattle.head.proofs.Laws.Refusals.{MayEnter, MayDecide, MayForm, may-enter, may-hear-state, may-hear-attempt, may-decide, may-form}
 use Rattle.head.proofs.Laws.Hearing.{state-kept, attempt-kept, hear-state-reads, hear-attempt-reads}
@@ -288,53 +288,81 @@ kept-by-every-call (form k) s r b g = by-form EndsGood s r k (λ z. stores-good 
 kept-by-every-call (write-state out) s r b g = λ n. writes-good s r g _ _ out
 kept-by-every-call (write-attempt out) s r b g = λ n. writes-good s r g _ _ out
 
--- ---- "The recovered record is the one after the done changes."
+-- ---- a call's stores are its changes
 
-module _ (r : List ℕ) (w : whole r ≡ true) (k : ℕ) where
-  still-there : mended r ≡ apply (begun k []) r
-  unfolding begun apply
-  still-there = mended-whole r w
+module _ (r : List ℕ) (k : ℕ) where
+  nothing-stored : r ≡ apply (take k []) r
+  unfolding apply
+  nothing-stored = ap (λ (a : List Store). apply a r) (sym (take-all k [] (omega arith)))
 
-  enter-cut : (view : ℕ) → view < 4294967296 → mended (exec (entryStep view ∷ []) (desk r (budget k)) .rec) ≡ apply (begun k (entryChange view ∷ [])) r
-  unfolding changesOf entryStep entryChange
-  enter-cut view b =
-      ap mended (exec-take (entryStep view ∷ []) k r ∙ ap (λ (a : List Store). apply (take k a) r) (sym (changes-script (entryStep view ∷ []) r)))
-      ∙ recovers-done (entryChange view ∷ []) r (sounds-one (entryChange view) r (entry-sound r view w (omega arith))) k
-
-  stores-recover : (s : Session) (m : ℕ) (program : List Step) (answer : Said) (t : Session) (changes : List Change)
-      → (m ≡ 0 → mended (exec program (desk r (budget k)) .rec) ≡ apply (begun k changes) r)
-      → mended (cond (eqb m 0) (stores program r k answer t) (refuses m r s) .words) ≡ apply (begun k (cond (eqb m 0) changes [])) r
-  stores-recover s m program answer t changes f =
+  stores-changes : (s : Session) (m : ℕ) (program : List Step) (answer : Said) (t : Session) (cs : List Change) → allStores cs ≡ script program r
+      → cond (eqb m 0) (stores program r k answer t) (refuses m r s) .words ≡ apply (take k (allStores (cond (eqb m 0) cs []))) r
+  unfolding allStores
+  stores-changes s m program answer t cs e =
       ⊎-elim
-      (λ e. rw e (ap mended (stores-words program r k answer t) ∙ f (eqb-true m 0 e)))
-      (λ e. rw e still-there)
+      (λ z. rw z (stores-words program r k answer t ∙ exec-take program k r ∙ ap (λ (a : List Store). apply (take k a) r) (sym e)))
+      (λ z. rw z nothing-stored)
       (passes-or-fails (eqb m 0))
 
 -- a call that stores nothing has no change
 abbrev StandsStill : List ℕ → Ended → Type 0
-StandsStill r e = mended (e .words) ≡ apply (begun 0 []) r
+StandsStill r e = e .words ≡ apply (take 0 (allStores [])) r
 
-pub recovers-every-call : RecoversEveryCall
-unfolding enterSpec decideSpec formSpec enterChanges decidesChanges formsChanges entryChange
-recovers-every-call (enter view m k) s r b g =
-    stores-recover r (g .sound) k s (enterRefusal s r view m) (entryStep view ∷ []) entered (opened (own r) view m) (entryChange view ∷ [])
-    (λ z. enter-cut r (g .sound) k view (b .0))
-recovers-every-call (hear-state line) s r b g =
-    by-hear-state (StandsStill r) s r line (λ z. still-there r (g .sound) 0) (still-there r (g .sound) 0)
-recovers-every-call (hear-attempt line) s r b g =
-    by-hear-attempt (StandsStill r) s r line (λ z. still-there r (g .sound) 0) (still-there r (g .sound) 0)
-recovers-every-call (decide k) s r b g =
+still : (r : List ℕ) → r ≡ apply (take 0 (allStores [])) r
+unfolding allStores apply
+still r = refl
+
+pub stores-its-changes : StoresItsChanges
+unfolding enterSpec decideSpec formSpec enterChanges decidesChanges formsChanges decideChanges formChanges entryStep stepStores
+stores-its-changes (enter view m k) s r =
+    stores-changes r k s (enterRefusal s r view m) (entryStep view ∷ []) entered (opened (own r) view m) (entryChange view ∷ []) (steps-script (entryStep view ∷ []) r)
+stores-its-changes (hear-state line) s r = by-hear-state (StandsStill r) s r line (λ z. still r) (still r)
+stores-its-changes (hear-attempt line) s r = by-hear-attempt (StandsStill r) s r line (λ z. still r) (still r)
+stores-its-changes (decide k) s r =
     let m = s .members in
     let held = s .held in
-    stores-recover r (g .sound) k s (decideRefusal s r) (decideProgram m held) (decideAnswer m held r) (atStage s (decidedStage s r)) (decideChanges m held r)
+    stores-changes r k s (decideRefusal s r) (decideProgram m held) (decideAnswer m held r) (atStage s (decidedStage s r)) (decideChanges m held r)
+    (changes-script (decideProgram m held) r)
+stores-its-changes (form k) s r =
+    let m = s .members in
+    stores-changes r k s (formRefusal s r) (formStep m ∷ []) formed (atStage s 4) (formChanges m r) (steps-script (formStep m ∷ []) r)
+stores-its-changes (write-state out) s r = still r
+stores-its-changes (write-attempt out) s r = still r
+
+pub no-empty-change : NoEmptyChange
+unfolding allNonEmpty nonEmpty enterChanges decidesChanges formsChanges entryChange decideChanges formChanges formStep formChange
+no-empty-change (enter view m k) s r = by-refusal (λ (cs : List Change). allNonEmpty cs ≡ true) (enterRefusal s r view m) _ _ (λ z. refl) refl
+no-empty-change (hear-state line) s r = refl
+no-empty-change (hear-attempt line) s r = refl
+no-empty-change (decide k) s r =
+    by-refusal (λ (cs : List Change). allNonEmpty cs ≡ true) (decideRefusal s r) _ _ (λ z. changes-nonempty (decideProgram (s .members) (s .held)) r) refl
+no-empty-change (form k) s r = by-refusal (λ (cs : List Change). allNonEmpty cs ≡ true) (formRefusal s r) _ _ (λ z. refl) refl
+no-empty-change (write-state out) s r = refl
+no-empty-change (write-attempt out) s r = refl
+
+pub sound-changes : SoundChanges
+unfolding enterChanges decidesChanges formsChanges
+sound-changes (enter view m k) s r b g =
+    by-refusal (λ (cs : List Change). Sounds cs r) (enterRefusal s r view m) _ _
+    (λ z. sounds-one (entryChange view) r (entry-sound r view (g .sound) (omega (arith, b .0)))) (last (g .sound))
+sound-changes (hear-state line) s r b g = last (g .sound)
+sound-changes (hear-attempt line) s r b g = last (g .sound)
+sound-changes (decide k) s r b g =
+    by-refusal (λ (cs : List Change). Sounds cs r) (decideRefusal s r) _ _
     (λ z.
     let may = may-decide s r z in
-    decide-cut m held r k (decide-given s r (g .sound) (fitting s r g (λ n. omega (arith, may .undecided))) (g .sized) (may .all-heard)))
-recovers-every-call (form k) s r b g =
-    let m = s .members in
-    stores-recover r (g .sound) k s (formRefusal s r) (formStep m ∷ []) formed (atStage s 4) (formChanges m r)
+    decide-sounds (s .members) (s .held) r (decide-given s r (g .sound) (fitting s r g (λ n. omega (arith, may .undecided))) (g .sized) (may .all-heard)))
+    (last (g .sound))
+sound-changes (form k) s r b g =
+    by-refusal (λ (cs : List Change). Sounds cs r) (formRefusal s r) _ _
     (λ z.
     let may = may-form s r z in
-    form-cut m r k (form-given s r (g .sound) (fitting s r g (λ n. omega (arith, may .attempted))) (g .sized) (may .attempted)))
-recovers-every-call (write-state out) s r b g = still-there r (g .sound) 0
-recovers-every-call (write-attempt out) s r b g = still-there r (g .sound) 0
+    form-sounds (s .members) r (form-given s r (g .sound) (fitting s r g (λ n. omega (arith, may .attempted))) (g .sized) (may .attempted)))
+    (last (g .sound))
+sound-changes (write-state out) s r b g = last (g .sound)
+sound-changes (write-attempt out) s r b g = last (g .sound)
+
+-- ---- "The recovered record is the one after the done changes."
+
+pub recovers-every-call : RecoversEveryCall
+recovers-every-call c s r b g = ap mended (stores-its-changes c s r) ∙ recovers-done (changesBy c s r) r (sound-changes c s r b g) (storesOf c)

@@ -1,7 +1,7 @@
 -- A session that fits a record, part by part and both ways: each test as the fact that it says.
-use mathlib.Core.Bool.{Bool, true, false, not, _&&_, _||_}
+use mathlib.Core.Bool.{true, not, _&&_, _||_}
 use mathlib.Core.Logic.{⊎-elim}
-use mathlib.Core.Path.{_≡_, refl, ap}
+use mathlib.Core.Path.{_≡_, ap}
 use mathlib.Core.List.{List}
 use Prim.Native.Nat.{ℕ, _≤_, _<_}
 use native.Mathlib.Omega.{arith}
@@ -9,7 +9,7 @@ use lib.Dec.{eqb, leb}
 use lib.ListN.{length}
 use borrow.Author.Tests.{eq-eqb, ne-eqb, eqb-true, eqb-false, leb-true, leb-false, le-leb, lt-leb}
 use Rattle.loops.specs.Below.{allBelow}
-use Rattle.loops.proofs.Laws.Truth.{and-left, and-right, and-both, or-cases, or-left, or-right, passes-or-fails, not-true, not-false, not-both, clash}
+use Rattle.loops.proofs.Laws.Truth.{unless, or-unless, or-none, and-left, and-right, and-both, or-left, or-right, passes-or-fails, not-true, not-false}
 use Rattle.loops.proofs.Laws.Tests.{all-at, all-of}
 use Rattle.group.specs.Heads.{has, within}
 use Rattle.record.specs.Layout.{own, entered, primary}
@@ -54,17 +54,6 @@ pub record Fitting (s : Session) (r : List ℕ) : Type 0 where
   pub formed : s .stage ≡ 4 → primary r ≡ viewSession (s .members) r
   pub heard-all : s .stage ≡ 4 → s .attempts ≡ s .members
 
--- a test that holds unless another does
-unless : (a b : Bool) → (a || b) ≡ true → a ≡ false → b ≡ true
-unless a b e f = ⊎-elim (λ t. absurd (not-both a t f)) (λ t. t) (or-cases a b e)
-
-given : (a b : Bool) → (a ≡ false → b ≡ true) → (a || b) ≡ true
-given a b f = ⊎-elim (λ t. or-left a b t) (λ t. or-right a b (f t)) (passes-or-fails a)
-
-pub or-none : (a b : Bool) → (a || b) ≡ false → (a ≡ false) × (b ≡ false)
-or-none true b e = absurd (clash e)
-or-none false b e = (refl, e)
-
 state-kept : (states me q : ℕ) (st : State) → stateFits states me q st ≡ true → has states q ≡ true → (q ≡ me → ⊥) → keepsRules st q ≡ true
 unfolding stateFits
 state-kept states me q st e h o =
@@ -73,7 +62,7 @@ state-kept states me q st e h o =
 state-fits : (states me q : ℕ) (st : State) → (has states q ≡ true → (q ≡ me → ⊥) → keepsRules st q ≡ true) → stateFits states me q st ≡ true
 unfolding stateFits
 state-fits states me q st f =
-    given (not (has states q) || eqb q me) (keepsRules st q)
+    or-unless (not (has states q) || eqb q me) (keepsRules st q)
     (λ t.
     f (not-false _ (or-none (not (has states q)) (eqb q me) t .0)) (eqb-false q me (or-none (not (has states q)) (eqb q me) t .1)))
 
@@ -142,9 +131,9 @@ module _ (s : Session) (r : List ℕ) where
       (all-of 16 (λ q. stateFits (s .states) (own r) q (heldOf (s .held) q)) (λ q l. state-fits (s .states) (own r) q (heldOf (s .held) q) (f .kept q l))))
       (and-both _ _ (and-both _ _ (and-both _ _
       (le-leb (s .stage) 4 (f .staged))
-      (given (leb (s .stage) 1) _ (λ t. eq-eqb _ _ (f .decided (leb-false (s .stage) 1 t)))))
-      (given (not (eqb (s .stage) 3)) _ (λ t. f .attempted (eqb-true _ _ (not-false _ t)))))
-      (given (not (eqb (s .stage) 4)) _ (λ t. whenFormed (eqb-true _ _ (not-false _ t))))))
+      (or-unless (leb (s .stage) 1) _ (λ t. eq-eqb _ _ (f .decided (leb-false (s .stage) 1 t)))))
+      (or-unless (not (eqb (s .stage) 3)) _ (λ t. f .attempted (eqb-true _ _ (not-false _ t)))))
+      (or-unless (not (eqb (s .stage) 4)) _ (λ t. whenFormed (eqb-true _ _ (not-false _ t))))))
 
 pub usable-stage : (s : Session) (r : List ℕ) → usable s r ≡ true → s .stage ≤ 4
 usable-stage s r e =

@@ -7,12 +7,13 @@ use Prim.Native.Nat.{ℕ, _≤_, _<_}
 use native.Mathlib.Omega.{arith}
 use lib.Dec.{eqb, leb, ltb, lit<}
 use borrow.Author.Tests.{eq-eqb, ne-eqb, eqb-true, eqb-false, le-leb, lt-leb, leb-false, lt-ltb, le-ltb, ltb-false}
+use Rattle.loops.proofs.Laws.Truth.{or-none}
 use Rattle.group.specs.Heads.{has}
 use Rattle.record.specs.Layout.{own, entered}
 use Rattle.head.specs.declared.session.Session.{Session}
 use Rattle.head.specs.Fits.{usable}
 use Rattle.head.specs.Refusals.{enterRefusal, stateRefusal, attemptRefusal, decideRefusal, formRefusal, writeStateRefusal, writeAttemptRefusal}
-use Rattle.head.proofs.Laws.Fits.{usable-stage, or-none}
+use Rattle.head.proofs.Laws.Fits.{usable-stage}
 
 module _ (s : Session) (r : List ℕ) where
   module _ (view m : ℕ) where

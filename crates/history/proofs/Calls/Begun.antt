@@ -7,10 +7,10 @@ use native.Mathlib.Omega.{arith}
 use lib.ListN.{length}
 use Rattle.store.specs.Desk.{Store, apply}
 use Rattle.store.specs.Program.{Step, script, after, upTo}
-use Rattle.store.specs.Changes.{Change, allStores, begun, changesOf}
+use Rattle.store.specs.Changes.{Change, allStores, begun, stepStores, changesOf}
 use Rattle.store.proofs.Laws.Script.{apply-append}
 use Rattle.store.proofs.Laws.Program.{upTo-none, upTo-next}
-use Rattle.store.proofs.Laws.Changes.{changes-script}
+use Rattle.store.proofs.Laws.Changes.{steps-script, changes-begun}
 
 pub none-begun : (k : ℕ) → begun k [] ≡ []
 unfolding begun
@@ -21,12 +21,12 @@ pub after-first : (f : Step) (fs : List Step) (r : List ℕ) → after (f ∷ fs
 unfolding after script
 after-first f fs r = apply-append (f r) (script fs (apply (f r) r)) r
 
-changes-append : (fs gs : List Step) (r : List ℕ) → changesOf (fs ++ gs) r ≡ changesOf fs r ++ changesOf gs (after fs r)
-unfolding changesOf after script apply
-changes-append [] gs r = refl
-changes-append (f ∷ fs) gs r =
+steps-append : (fs gs : List Step) (r : List ℕ) → stepStores (fs ++ gs) r ≡ stepStores fs r ++ stepStores gs (after fs r)
+unfolding stepStores after script apply
+steps-append [] gs r = refl
+steps-append (f ∷ fs) gs r =
     ap (λ (cs : List Change). f r ∷ cs)
-    (changes-append fs gs (apply (f r) r) ∙ ap (λ (x : List ℕ). changesOf fs (apply (f r) r) ++ changesOf gs x) (sym (apply-append (f r) (script fs (apply (f r) r)) r)))
+    (steps-append fs gs (apply (f r) r) ∙ ap (λ (x : List ℕ). stepStores fs (apply (f r) r) ++ stepStores gs x) (sym (apply-append (f r) (script fs (apply (f r) r)) r)))
 
 -- changes and more changes: as without those, or all of these and some of those
 begun-cases : (cs ds : List Change) (k : ℕ) (r : List ℕ)
@@ -40,25 +40,28 @@ begun-cases (c ∷ cs) ds (suc k) r =
     (λ (j, e). inr (j, apply-append c (begun (suc k - length c) (cs ++ ds)) r ∙ e ∙ ap (apply (begun j ds)) (sym (apply-append c (allStores cs) r))))
     (begun-cases cs ds (suc k - length c) (apply c r))
 
--- the record after the changes begun with k stores
+-- the record after the steps begun with k stores; those that store something are the changes done
 abbrev pub cutAt : ℕ → List Step → List ℕ → List ℕ
-cutAt k fs r = apply (begun k (changesOf fs r)) r
+cutAt k fs r = apply (begun k (stepStores fs r)) r
+
+pub cut-changes : (k : ℕ) (fs : List Step) (r : List ℕ) → apply (begun k (changesOf fs r)) r ≡ cutAt k fs r
+cut-changes k fs r = ap (λ (a : List Store). apply a r) (changes-begun k fs r)
 
 pub cut-append : (fs gs : List Step) (r : List ℕ) (k : ℕ) → (cutAt k (fs ++ gs) r ≡ cutAt k fs r) ⊎ ((j : ℕ) × (cutAt k (fs ++ gs) r ≡ cutAt j gs (after fs r)))
 unfolding after
 cut-append fs gs r k =
-    let e : cutAt k (fs ++ gs) r ≡ apply (begun k (changesOf fs r ++ changesOf gs (apply (script fs r) r))) r = ap (λ (cs : List Change). apply (begun k cs) r) (changes-append fs gs r) in
+    let e : cutAt k (fs ++ gs) r ≡ apply (begun k (stepStores fs r ++ stepStores gs (apply (script fs r) r))) r = ap (λ (cs : List Change). apply (begun k cs) r) (steps-append fs gs r) in
     ⊎-elim (λ t. inl (e ∙ t))
-    (λ (j, t). inr (j, e ∙ t ∙ ap (λ (a : List Store). apply (begun j (changesOf gs (apply (script fs r) r))) (apply a r)) (changes-script fs r)))
-    (begun-cases (changesOf fs r) (changesOf gs (apply (script fs r) r)) k r)
+    (λ (j, t). inr (j, e ∙ t ∙ ap (λ (a : List Store). apply (begun j (stepStores gs (apply (script fs r) r))) (apply a r)) (steps-script fs r)))
+    (begun-cases (stepStores fs r) (stepStores gs (apply (script fs r) r)) k r)
 
 pub cut-first : (f : Step) (fs : List Step) (r : List ℕ) (k : ℕ) → (cutAt k (f ∷ fs) r ≡ r) ⊎ ((j : ℕ) × (cutAt k (f ∷ fs) r ≡ cutAt j fs (apply (f r) r)))
-unfolding begun changesOf apply
+unfolding begun stepStores apply
 cut-first f fs r zero = inl refl
-cut-first f fs r (suc k) = inr (suc k - length (f r), apply-append (f r) (begun (suc k - length (f r)) (changesOf fs (apply (f r) r))) r)
+cut-first f fs r (suc k) = inr (suc k - length (f r), apply-append (f r) (begun (suc k - length (f r)) (stepStores fs (apply (f r) r))) r)
 
 pub cut-none : (r : List ℕ) (k : ℕ) → cutAt k [] r ≡ r
-unfolding changesOf apply
+unfolding stepStores apply
 cut-none r k = ap (λ (a : List Store). apply a r) (none-begun k)
 
 -- ---- what each step keeps holds wherever the program is cut

@@ -42,7 +42,7 @@ use Rattle.history.proofs.Abstraction.{recOf, heardOf, volBy, volOf, Wr
 use Rattle.history.proofs.Invariant.{Reading, Live, Runs, group-core, group-least, none-gone}
 use Rattle.history.proofs.Calls.Ends.{refusal-elim, stores-elim, exec-long, Kept, stays, cut-ok}
 use Rattle.history.proofs.Calls.Going.{goes-on, own-is, members-here, member-has}
-use Rattle.history.proofs.Calls.Begun.{cutAt, after-first, cut-append, cut-first, cut-none, AllKeep, keep-upTo, cut-keeps, after-keeps}
+use Rattle.history.proofs.Calls.Begun.{cutAt, after-first, cut-changes, cut-append, cut-first, cut-none, AllKeep, keep-upTo, cut-keeps, after-keeps}
 use Rattle.history.proofs.Calls.Learn.{saidIn, Within, Alike, still-within, Marking, marking-start, marking-step, Clearing, clearing-start, clearing-step, marks-are, adopted-alike, adopts-are, clears-are}
 use Rattle.history.proofs.Calls.Attempt.{weighs, weighs-other, weighs-self, attempt-reads, attempts-are}
 
@@ -259,11 +259,11 @@ module _ (S : Setting) (G : Group) (R : Reading S G) (p : ℕ) (L : List Sent) (
 
   cut-mends : (k : ℕ) → mended (exec program (desk r (budget k)) .rec) ≡ cutAt k program r
   unfolding decideChanges
-  cut-mends k = decide-cut (s .members) (s .held) r k given-to
+  cut-mends k = decide-cut (s .members) (s .held) r k given-to ∙ cut-changes k program r
 
   cut-whole : (k : ℕ) → whole (cutAt k program r) ≡ true
   unfolding decideChanges
-  cut-whole k = sounds-begun (decideChanges (s .members) (s .held) r) r k (decide-sounds (s .members) (s .held) r given-to)
+  cut-whole k = ap whole (sym (cut-changes k program r)) ∙ sounds-begun (decideChanges (s .members) (s .held) r) r k (decide-sounds (s .members) (s .held) r given-to)
 
   cut-kept : (k : ℕ) → Kept S G p L (running r s) (running (exec program (desk r (budget k)) .rec) noSession)
   cut-kept k =

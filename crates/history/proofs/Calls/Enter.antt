@@ -43,11 +43,11 @@ unfolding entryChange apply
 entered-whole r v e h = entry-sound r v e (omega arith) .after
 
 pub after-entry : (r : List ℕ) (v : ℕ) → after (entryStep v ∷ []) r ≡ stored (storeEntered v) r
-unfolding entryStep
+unfolding entryStep entryChange
 after-entry r v = after-one (entryStep v) r ∙ apply-one (storeEntered v) r
 
 one-store : (r : List ℕ) (v : ℕ) → length (script (entryStep v ∷ []) r) ≡ 1
-unfolding entryStep
+unfolding entryStep entryChange
 one-store r v = ap (λ (a : List Store). length a) (script-one (entryStep v) r)
 
 pub entry-none : (r : List ℕ) (v k : ℕ) → k < length (script (entryStep v ∷ []) r) → exec (entryStep v ∷ []) (desk r (budget k)) .rec ≡ r

@@ -32,6 +32,19 @@ pub or-right : (a b : Bool) → b ≡ true → (a || b) ≡ true
 or-right true b e = refl
 or-right false b e = e
 
+-- of two tests one holds unless the other does, and where neither holds each fails
+pub unless : (a b : Bool) → (a || b) ≡ true → a ≡ false → b ≡ true
+unless true b e f = absurd (clash f)
+unless false b e f = e
+
+pub or-unless : (a b : Bool) → (a ≡ false → b ≡ true) → (a || b) ≡ true
+or-unless true b f = refl
+or-unless false b f = f refl
+
+pub or-none : (a b : Bool) → (a || b) ≡ false → (a ≡ false) × (b ≡ false)
+or-none true b e = absurd (clash e)
+or-none false b e = (refl, e)
+
 -- a test passes or it does not
 pub passes-or-fails : (b : Bool) → (b ≡ true) ⊎ (b ≡ false)
 passes-or-fails true = inl refl

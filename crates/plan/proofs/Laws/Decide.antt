@@ -1,4 +1,4 @@
--- Every step of decide is one change that recovery completes, and leaves what decide is given: a whole record, of the same group and own head.
+-- Every step of decide is one change that recovery completes, or nothing, and leaves what decide is given: a whole record, of the same group and own head.
 use mathlib.Core.Path.{_≡_, refl, sym, ap, subst, _∙_}
 use mathlib.Core.Bool.{Bool, true, false, not, cond}
 use mathlib.Core.List.{List, [], _∷_}
@@ -12,20 +12,20 @@ use Rattle.group.specs.Heads.{has}
 use Rattle.group.specs.Words.{heads, num, session, sound, sessionWord}
 use Rattle.group.specs.Quorum.{enough}
 use Rattle.group.proofs.Laws.Words.{num-session, heads-session, has-heads}
-use Rattle.store.specs.Desk.{Store, apply, differs, whereChanged}
+use Rattle.store.specs.Desk.{Store, apply, whereChanged}
 use Rattle.store.specs.Program.{Step, after, upTo}
-use Rattle.store.specs.Changes.{begun, changesOf}
+use Rattle.store.specs.Changes.{begun, stepStores, changesOf}
 use Rattle.store.proofs.Laws.Script.{apply-append}
+use Rattle.store.proofs.Laws.Changes.{changes-begun}
 use Rattle.record.specs.Layout.{settings, own, entered, number, storeMarks}
 use Rattle.record.specs.Whole.{whole}
 use Rattle.record.proofs.Laws.Layout.{Reads, same-own, own-small}
 use Rattle.record.proofs.Laws.Whole.{whole-parts}
 use Rattle.recovery.specs.Changes.{markChange, clearChange, adoptChange, attemptChange}
-use Rattle.recovery.specs.Statements.{Sound, Sounds}
-use Rattle.recovery.proofs.Laws.Still.{mended-whole}
+use Rattle.recovery.specs.Statements.{Sounds}
 use Rattle.recovery.proofs.Laws.Small.{mark-sound, clear-sound, attempt-sound}
 use Rattle.recovery.proofs.Laws.Adopt.{adopted, adopt-sound}
-use Rattle.recovery.proofs.Laws.Sounds.{Safe, AllSafe, AllSafe.none as none, AllSafe.more as more, safe-append, safe-upTo, safe-sounds, call-cut, safe-after}
+use Rattle.recovery.proofs.Laws.Sounds.{OneOrNone, cond-one, differs-one, one-after, Safe, AllSafe, AllSafe.none as none, AllSafe.more as more, safe-append, safe-upTo, safe-sounds, call-cut, safe-after}
 use Rattle.state.specs.declared.Held.{Held}
 use Rattle.plan.specs.Members.{heldOf, other}
 use Rattle.plan.specs.Marks.{marked, markStep}
@@ -39,15 +39,7 @@ use Rattle.plan.proofs.Laws.Adoption.{adopts-above, adopts-some, adopts
 use Rattle.plan.proofs.Laws.Attempt.{attempts-quorate, attempts-number, attempts-place, quorate-enough, highest-number-own, lowest-free}
 use Rattle.plan.proofs.Laws.After.{marked-reads, cleared-reads, attempted-reads}
 
--- ---- a step that may do nothing
-
-empty-sound : (r : List ℕ) → whole r ≡ true → Sound r []
-unfolding apply
-empty-sound r e = record { before = e; cut = λ k. mended-whole r e; after = e }
-
-cond-sound : (r : List ℕ) (b : Bool) (c : List Store) → whole r ≡ true → (b ≡ true → Sound r c) → Sound r (cond b c [])
-cond-sound r true c e f = f refl
-cond-sound r false c e f = empty-sound r e
+-- ---- what stays
 
 -- word 0 and the view stay
 pub record Same (r x : List ℕ) : Type 0 where
@@ -62,20 +54,19 @@ cond-same r false c f = record { group = refl; view = refl }
 reads-same : {r x : List ℕ} {n p : ℕ} {formed place marks : ℕ → ℕ} → Reads x (settings r) (entered r) n p formed place marks → Same r x
 reads-same s = record { group = s .settings-is; view = s .entered-is }
 
-differs-sound : (r : List ℕ) (b : Bool) (s : Store) → whole r ≡ true → Sound r (s ∷ []) → Sound r (differs b s)
-differs-sound r true s e t = empty-sound r e
-differs-sound r false s e t = t
-
 -- ---- a call cut anywhere keeps what each of its steps keeps
 
-safe-begun : {P : List ℕ → Type 0} (fs : List Step) (r : List ℕ) (k : ℕ) → AllSafe P fs → P r → P (apply (begun k (changesOf fs r)) r)
-unfolding changesOf begun apply
-safe-begun [] r zero none p = p
-safe-begun [] r (suc k) none p = p
-safe-begun (f ∷ fs) r zero (more s ss) p = p
-safe-begun {P} (f ∷ fs) r (suc k) (more s ss) p =
+safe-steps : {P : List ℕ → Type 0} (fs : List Step) (r : List ℕ) (k : ℕ) → AllSafe P fs → P r → P (apply (begun k (stepStores fs r)) r)
+unfolding stepStores begun apply
+safe-steps [] r zero none p = p
+safe-steps [] r (suc k) none p = p
+safe-steps (f ∷ fs) r zero (more s ss) p = p
+safe-steps {P} (f ∷ fs) r (suc k) (more s ss) p =
     let j = suc k - length (f r) in
-    subst P (sym (apply-append (f r) (begun j (changesOf fs (apply (f r) r))) r)) (safe-begun fs (apply (f r) r) j ss (s .kept r p))
+    subst P (sym (apply-append (f r) (begun j (stepStores fs (apply (f r) r))) r)) (safe-steps fs (apply (f r) r) j ss (s .kept r p))
+
+safe-begun : {P : List ℕ → Type 0} (fs : List Step) (r : List ℕ) (k : ℕ) → AllSafe P fs → P r → P (apply (begun k (changesOf fs r)) r)
+safe-begun fs r k s p = rw (changes-begun k fs r) (safe-steps fs r k s p)
 
 -- ---- what decide is given stays
 
@@ -99,11 +90,11 @@ pub record Stays (m : ℕ) (held : Held) (r₀ r : List ℕ) : Type 0 where
 module _ (m : ℕ) (held : Held) where
   -- ---- a. each mark word is one change
 
-  mark-step : (i : ℕ) → i < 16 → (r : List ℕ) → Given m held r → Sound r (markStep m held i r)
+  mark-step : (i : ℕ) → i < 16 → (r : List ℕ) → Given m held r → OneOrNone r (markStep m held i r)
   unfolding markStep whereChanged markChange
   mark-step i h r g =
       let s = storeMarks i (marked m held r i) in
-      differs-sound r (eqb (getD r (s .at) 0) (s .word)) s (g .sound)
+      differs-one r (eqb (getD r (s .at) 0) (s .word)) s
       (mark-sound r i (marked m held r i) (g .sound) h (marked-ok m held r (whole-parts r (g .sound)) i h))
 
   -- ---- b. adoption is one change: what is adopted is a session with own head that a record may hold
@@ -115,10 +106,10 @@ module _ (m : ℕ) (held : Held) where
       subst (Formable (own r) (o .from) (heldOf held (o .from) .number)) (sym (o .is))
       (last-formed held r (o .from) (g .states (o .from) (o .head) (o .is-other)) (λ z. adopts-some m held r e (o .is ∙ z)))
 
-  adopt-step : (r : List ℕ) → Given m held r → Sound r (adoptStep m held r)
+  adopt-step : (r : List ℕ) → Given m held r → OneOrNone r (adoptStep m held r)
   unfolding adoptStep
   adopt-step r g =
-      cond-sound r (adopts m held r) (adoptChange r (bestOffer m held r)) (g .sound)
+      cond-one r (adopts m held r) (adoptChange r (bestOffer m held r))
       (λ e.
       let o = adopts-from m held r e in
       let f = best-formable r g e in
@@ -130,9 +121,9 @@ module _ (m : ℕ) (held : Held) where
 
   -- ---- c. each clearing is one change
 
-  clear-step : (i : ℕ) → i < 16 → (r : List ℕ) → Given m held r → Sound r (clearStep m held i r)
+  clear-step : (i : ℕ) → i < 16 → (r : List ℕ) → Given m held r → OneOrNone r (clearStep m held i r)
   unfolding clearStep
-  clear-step i h r g = cond-sound r (toClear m held r i) (clearChange i) (g .sound) (λ e. clear-sound r i (g .sound) h)
+  clear-step i h r g = cond-one r (toClear m held r i) (clearChange i) (λ e. clear-sound r i (g .sound) h)
 
   clear-same : (i : ℕ) → i < 16 → (r : List ℕ) → length r ≡ 52 → Same r (apply (clearStep m held i r) r)
   unfolding clearStep
@@ -159,10 +150,10 @@ module _ (m : ℕ) (held : Held) where
       (or-right (eqb w 0) _ (ap not (ne-eqb (heads w) 0 (λ z. has-zero m (own r) (g .among) (sym (attempt-heads r (g .members)) ∙ z)))))
       (lt-ltb w 281474976710656 (omega (arith, attempt-number r (g .members))))
 
-  attempt-step : (r : List ℕ) → Given m held r → Sound r (attemptStep m held r)
+  attempt-step : (r : List ℕ) → Given m held r → OneOrNone r (attemptStep m held r)
   unfolding attemptStep enough
   attempt-step r g =
-      cond-sound r (attempts m held r) (attemptChange (lowestFree r) (attemptSession m held r)) (g .sound)
+      cond-one r (attempts m held r) (attemptChange (lowestFree r) (attemptSession m held r))
       (λ e.
       attempt-sound r (lowestFree r) (attemptSession m held r) (g .sound) (attempts-place m held r e) (lowest-free r (attempts-place m held r e))
       (attempt-word r g (attempts-number m held r e)) (attempt-has r (g .members) (own r) (own-small r) ∙ g .among)
@@ -175,17 +166,17 @@ module _ (m : ℕ) (held : Held) where
       cond-same r (attempts m held r) (attemptChange (lowestFree r) (attemptSession m held r))
       (λ e. reads-same (attempted-reads r l (lowestFree r) (attempts-place m held r e) (attemptSession m held r)))
 
-  -- ---- each step is one change, and keeps what decide is given
+  -- ---- each step is one change or nothing, and keeps what decide is given
 
   module _ (r₀ : List ℕ) where
-    safe : (f : Step) → ((r : List ℕ) → Given m held r → Sound r (f r)) → ((r : List ℕ) → length r ≡ 52 → Same r (apply (f r) r)) → Safe (Stays m held r₀) f
+    safe : (f : Step) → ((r : List ℕ) → Given m held r → OneOrNone r (f r)) → ((r : List ℕ) → length r ≡ 52 → Same r (apply (f r) r)) → Safe (Stays m held r₀) f
     safe f s k = record {
       sound = λ r p. s r (p .given);
       kept = λ r p.
           let x = apply (f r) r in
           let e = k r (whole-parts r (p .given .sound) .long) in
           record {
-            given = given-kept m held r x (p .given) (s r (p .given) .after) (e .group);
+            given = given-kept m held r x (p .given) (one-after r (f r) (p .given .sound) (s r (p .given))) (e .group);
             same = record { group = e .group ∙ p .same .group; view = e .view ∙ p .same .view };
           };
     }

@@ -11,9 +11,9 @@ use Rattle.group.specs.Words.{num, session}
 use Rattle.group.proofs.Laws.Words.{num-session}
 use Rattle.store.specs.Desk.{Store, apply}
 use Rattle.store.specs.Program.{after}
-use Rattle.store.specs.Changes.{Change, changesOf}
+use Rattle.store.specs.Changes.{Change, stepStores}
 use Rattle.store.proofs.Laws.Program.{exec-take, after-one, after-append}
-use Rattle.store.proofs.Laws.Changes.{changes-script}
+use Rattle.store.proofs.Laws.Changes.{steps-script}
 use Rattle.record.specs.Layout.{settings, entered, core, least, own, number, primary, formedFor, placeAt, marksAt}
 use Rattle.record.specs.Whole.{whole}
 use Rattle.record.proofs.Laws.Layout.{Reads, changed, changed-here}
@@ -87,9 +87,9 @@ forms-primary m r g = let s = formed-reads m r g in s .primary-is ∙ ap (λ (n 
 
 -- FORM CUT ANYWHERE: recovery gives the record after the change, if it has begun
 pub form-cut : FormCut
-unfolding formChanges changesOf
+unfolding formChanges stepStores
 form-cut m r k g =
-    ap mended (exec-take (formStep m ∷ []) k r ∙ ap (λ (a : List Store). apply (take k a) r) (sym (changes-script (formStep m ∷ []) r)))
+    ap mended (exec-take (formStep m ∷ []) k r ∙ ap (λ (a : List Store). apply (take k a) r) (sym (steps-script (formStep m ∷ []) r)))
     ∙ recovers-done (formChanges m r) r (form-sounds m r g) k
 
 pub form-whole : FormWhole

@@ -17,7 +17,7 @@ use Rattle.group.specs.Heads.{has}
 use Rattle.group.specs.Words.{rank}
 use Rattle.store.specs.Desk.{Store, stored, apply, storeIf, differs, whereChanged, diffIf}
 use Rattle.store.specs.Program.{Step, script, after, upTo}
-use Rattle.store.specs.Changes.{allStores, begun}
+use Rattle.store.specs.Changes.{nonEmpty, allStores, begun}
 use Rattle.store.proofs.Laws.Put.{stored-length}
 use Rattle.store.proofs.Laws.Script.{apply-append, apply-length}
 use Rattle.store.proofs.Laws.Program.{script-append, script-one, upTo-none, upTo-next}
@@ -154,11 +154,12 @@ again r k =
 
 -- A CHANGE IS ITS FIRST STORE AND WHAT RECOVERY THEN DOES: its further stores put what recovery would, and it leaves a whole record
 pub change-sound : (r : List ℕ) (s : Store) (rest : List Store) → whole r ≡ true → AllAgree (mended (stored s r)) rest → whole (apply rest (stored s r)) ≡ true → Sound r (s ∷ rest)
-unfolding apply
+unfolding apply nonEmpty
 change-sound r s rest e a w =
     let l : length (stored s r) ≡ 52 = stored-length s r ∙ whole-length r e in
     record {
       before = e;
+      stores = refl;
       cut = λ k. cut-mends (stored s r) l rest a k ∙ sym (all-mends (stored s r) l rest a) ∙ mended-whole (apply rest (stored s r)) w;
       after = w;
     }
@@ -166,11 +167,6 @@ change-sound r s rest e a w =
 pub not-begun : NotBegun
 unfolding apply
 not-begun r c s = mended-whole r (s .before)
-
--- nothing to store is no change
-pub nothing-sound : (r : List ℕ) → whole r ≡ true → Sound r []
-unfolding apply
-nothing-sound r e = record { before = e; cut = λ k. mended-whole r e; after = e }
 
 -- ---- a call's changes
 

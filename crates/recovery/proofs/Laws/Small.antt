@@ -8,14 +8,14 @@ use Prim.Native.Nat.{ℕ, _+_, _≤_, _<_}
 use native.Mathlib.Nat.{le-antisymm}
 use native.Mathlib.Omega.{arith}
 use lib.Dec.{eqb, leb}
-use lib.ListN.{getD, length}
+use lib.ListN.{length}
 use borrow.Author.Tests.{eqb-true, eqb-false, ltb-true}
 use Rattle.loops.proofs.Laws.Truth.{and-right, cond-same, passes-or-fails}
 use Rattle.group.specs.Heads.{has}
 use Rattle.group.specs.Words.{heads, num, rank, sound, sessionWord}
 use Rattle.group.specs.Quorum.{enough}
 use Rattle.group.proofs.Laws.Words.{rank-none, rank-some, none-or-some}
-use Rattle.store.specs.Desk.{stored, apply, differs, whereChanged, diffIf}
+use Rattle.store.specs.Desk.{stored, apply}
 use Rattle.store.proofs.Laws.Put.{stored-length}
 use Rattle.record.specs.Layout.{settings, core, least, own, entered, number, primary, formedFor, placeAt, marksAt, storeEntered, storeNumber, storePlace, storeMarks}
 use Rattle.record.specs.Whole.{marksOk, marksWhole, whole}
@@ -23,13 +23,13 @@ use Rattle.record.proofs.Laws.Layout.{Reads, changed, changed-here, changed-the
 use Rattle.record.proofs.Laws.Whole.{Whole, Used, whole-parts, place-cases}
 use Rattle.recovery.specs.Recover.{greatest}
 use Rattle.recovery.specs.Changes.{entryChange, markChange, clearChange, attemptChange}
-use Rattle.recovery.specs.Statements.{Sound, EntrySound, MarkSound, ClearSound, AttemptSound}
+use Rattle.recovery.specs.Statements.{EntrySound, MarkSound, ClearSound, AttemptSound}
 use Rattle.recovery.proofs.Laws.Changed.{changed-all, changed-ext}
 use Rattle.recovery.proofs.Laws.Greatest.{greatest-le, place-le}
 use Rattle.recovery.proofs.Laws.Mended.{mendedPlace, mended-reads}
 use Rattle.recovery.proofs.Laws.Again.{agrees-number, agrees-marks}
 use Rattle.recovery.proofs.Laws.Still.{place-below, whole-formed, whole-marks}
-use Rattle.recovery.proofs.Laws.Cut.{AllAgree.none as none, AllAgree.more as more, change-sound, nothing-sound}
+use Rattle.recovery.proofs.Laws.Cut.{AllAgree.none as none, AllAgree.more as more, change-sound}
 use Rattle.recovery.proofs.Laws.Follows.{Last.stays as stays, Placed, Placed.free as free, Placed.kept as kept, Placed.new as new, follows-whole}
 
 -- ---- what stays
@@ -102,15 +102,6 @@ mark-whole r i m w l ok =
 pub mark-sound : MarkSound
 unfolding markChange apply
 mark-sound r i m e l ok = change-sound r (storeMarks i m) [] e none (mark-whole r i m (whole-parts r e) l ok)
-
--- a mark word is stored only where it changes
-pub mark-changes : (r : List ℕ) (i m : ℕ) → whole r ≡ true → i < 16 → marksOk (own r) (placeAt r i) m ≡ true → Sound r (diffIf true (storeMarks i m) r)
-unfolding diffIf whereChanged markChange
-mark-changes r i m e l ok = go (eqb (getD r (storeMarks i m .at) 0) (storeMarks i m .word))
-  where
-    go : (b : Bool) → Sound r (differs b (storeMarks i m))
-    go true = nothing-sound r e
-    go false = mark-sound r i m e l ok
 
 -- ---- a clearing
 

@@ -1,13 +1,15 @@
--- Changes one after the other, and calls made of steps that are each one change: by induction on them.
-use mathlib.Core.Bool.{true}
-use mathlib.Core.Path.{_≡_, sym, ap, subst, _∙_}
+-- Changes one after the other, and calls made of steps that are each one change or nothing: by induction on them.
+use mathlib.Core.Bool.{Bool, true, false, cond}
+use mathlib.Core.Logic.{_⊎_, inl, inr, ⊎-elim}
+use mathlib.Core.Path.{_≡_, refl, sym, ap, subst, _∙_}
 use mathlib.Core.List.{List, [], _∷_, _++_}
 use Prim.Native.Nat.{ℕ, zero, suc, _-_, _<_}
 use native.Mathlib.Omega.{arith}
 use lib.ListN.{length, take}
-use Rattle.store.specs.Desk.{Store, desk, budget, apply}
+use Rattle.loops.proofs.Laws.Truth.{clash}
+use Rattle.store.specs.Desk.{Store, desk, budget, apply, differs}
 use Rattle.store.specs.Program.{Step, exec, script, after, upTo}
-use Rattle.store.specs.Changes.{Change, allStores, begun, changesOf}
+use Rattle.store.specs.Changes.{Change, nonEmpty, allStores, begun, stepStores, made, changesOf}
 use Rattle.store.proofs.Laws.Script.{apply-append}
 use Rattle.store.proofs.Laws.Program.{exec-take, upTo-none, upTo-next}
 use Rattle.store.proofs.Laws.Changes.{changes-script}
@@ -43,11 +45,34 @@ sounds-after (c ∷ cs) r (next s ss) = ap whole (apply-append c (allStores cs) 
 pub sounds-one : (c : Change) (r : List ℕ) → Sound r c → Sounds (c ∷ []) r
 sounds-one c r s = next s (last (s .after))
 
--- ---- a call whose every step is one change
+-- ---- a step: one change, or nothing to store
 
--- of each record with P the step is one change, and P holds after it
+abbrev pub OneOrNone : List ℕ → List Store → Type 0
+OneOrNone r c = (c ≡ []) ⊎ Sound r c
+
+pub cond-one : (r : List ℕ) (b : Bool) (c : List Store) → (b ≡ true → Sound r c) → OneOrNone r (cond b c [])
+cond-one r true c f = inr (f refl)
+cond-one r false c f = inl refl
+
+pub differs-one : (r : List ℕ) (b : Bool) (s : Store) → Sound r (s ∷ []) → OneOrNone r (differs b s)
+differs-one r true s t = inl refl
+differs-one r false s t = inr t
+
+pub one-after : (r : List ℕ) (c : List Store) → whole r ≡ true → OneOrNone r c → whole (apply c r) ≡ true
+unfolding apply
+one-after r c e o = ⊎-elim (λ z. ap (λ (a : List Store). whole (apply a r)) z ∙ e) (λ s. s .after) o
+
+sounds-made : (r : List ℕ) (c : List Store) (cs : List (List Store)) → OneOrNone r c → Sounds (made cs) (apply c r) → Sounds (made (c ∷ cs)) r
+unfolding made apply nonEmpty
+sounds-made r [] cs o ss = ss
+sounds-made r (s ∷ c) cs (inl z) ss = absurd (clash (ap nonEmpty z))
+sounds-made r (s ∷ c) cs (inr t) ss = next t ss
+
+-- ---- a call made of such steps
+
+-- of each record with P the step is one change or nothing, and P holds after it
 pub record Safe (P : List ℕ → Type 0) (f : Step) : Type 0 where
-  pub sound : (r : List ℕ) → P r → Sound r (f r)
+  pub sound : (r : List ℕ) → P r → OneOrNone r (f r)
   pub kept : (r : List ℕ) → P r → P (apply (f r) r)
 
 pub data AllSafe (P : List ℕ → Type 0) : List Step → Type 0 where
@@ -65,9 +90,9 @@ module _ {P : List ℕ → Type 0} where
 
   module _ (good : (r : List ℕ) → P r → whole r ≡ true) where
     pub safe-sounds : (fs : List Step) (r : List ℕ) → AllSafe P fs → P r → Sounds (changesOf fs r) r
-    unfolding changesOf
+    unfolding changesOf stepStores made
     safe-sounds [] r none p = last (good r p)
-    safe-sounds (f ∷ fs) r (more s ss) p = next (s .sound r p) (safe-sounds fs (apply (f r) r) ss (s .kept r p))
+    safe-sounds (f ∷ fs) r (more s ss) p = sounds-made r (f r) (stepStores fs (apply (f r) r)) (s .sound r p) (safe-sounds fs (apply (f r) r) ss (s .kept r p))
 
     -- WITH ANY BUDGET, RECOVERY OF WHAT THE CALL LEAVES GIVES THE RECORD AFTER THE CHANGES BEGUN
     pub call-cut : (fs : List Step) (r : List ℕ) (k : ℕ) → AllSafe P fs → P r → mended (exec fs (desk r (budget k)) .rec) ≡ apply (begun k (changesOf fs r)) r

@@ -18,7 +18,8 @@ heads-of-requires-2 c κs = search needs
 
 returns : tie.Need-returns
 unfolding behind
-returns c = cc
+returns c =
+    rw (c .heads-of2 .ensures, c .before .heads-of .ensures, c .before .before .rank-of2 .ensures, c .before .before .before .rank-of .ensures)
 
 pub behind-spec : {M : Type 1} → statement M
 behind-spec =

@@ -1,4 +1,5 @@
 -- Laws of changes that do not ask what recovery does with them. By induction on the changes.
+use mathlib.Core.Bool.{true}
 use mathlib.Core.Path.{_≡_, refl, sym, ap, _∙_}
 use mathlib.Core.List.{List, [], _∷_, _++_, append-assoc}
 use Prim.Native.Nat.{ℕ, zero, suc, _-_}
@@ -6,7 +7,7 @@ use native.Mathlib.Omega.{arith}
 use lib.ListN.{length, length-append}
 use Rattle.store.specs.Desk.{Store, apply}
 use Rattle.store.specs.Program.{Step, script}
-use Rattle.store.specs.Changes.{Change, allStores, begun, changesOf, made}
+use Rattle.store.specs.Changes.{Change, allNonEmpty, allStores, begun, changesOf, made, nonEmpty, stepStores}
 
 pub stores-append : (cs ds : List Change) → allStores (cs ++ ds) ≡ allStores cs ++ allStores ds
 unfolding allStores
@@ -32,20 +33,21 @@ begun-append (suc k) (c ∷ cs) ds =
     ∙ sym (append-assoc c (begun (suc k - length c) cs) (begun (suc k - length c - length (allStores cs)) ds))
     ∙ ap (λ (j : ℕ). (c ++ begun (suc k - length c) cs) ++ begun j ds) (omega (arith, length-append c (allStores cs)))
 
--- a program's changes have its stores
-pub changes-script : (fs : List Step) (r : List ℕ) → allStores (changesOf fs r) ≡ script fs r
-unfolding changesOf allStores script
-changes-script [] r = refl
-changes-script (f ∷ fs) r = ap (λ (s : List Store). f r ++ s) (changes-script fs (apply (f r) r))
+-- ---- steps that store nothing left out: the same stores, and the same are done after k of them
 
--- the changes that store something are as good as all: they have the same stores, and the same are done after k of them
-pub made-stores : (cs : List Change) → allStores (made cs) ≡ allStores cs
+pub made-nonempty : (cs : List (List Store)) → allNonEmpty (made cs) ≡ true
+unfolding made allNonEmpty nonEmpty
+made-nonempty [] = refl
+made-nonempty ([] ∷ cs) = made-nonempty cs
+made-nonempty ((s ∷ c) ∷ cs) = made-nonempty cs
+
+made-stores : (cs : List (List Store)) → allStores (made cs) ≡ allStores cs
 unfolding made allStores
 made-stores [] = refl
 made-stores ([] ∷ cs) = made-stores cs
 made-stores ((s ∷ c) ∷ cs) = ap (λ (l : List Store). (s ∷ c) ++ l) (made-stores cs)
 
-pub made-begun : (k : ℕ) (cs : List Change) → begun k (made cs) ≡ begun k cs
+made-begun : (k : ℕ) (cs : List (List Store)) → begun k (made cs) ≡ begun k cs
 unfolding made begun
 made-begun k [] = refl
 made-begun zero ([] ∷ cs) = begun-none (made cs)
@@ -55,3 +57,25 @@ made-begun (suc k) ([] ∷ cs) = made-begun (suc k) cs ∙ ap (λ (j : ℕ). beg
     all n = omega arith
 made-begun zero ((s ∷ c) ∷ cs) = refl
 made-begun (suc k) ((s ∷ c) ∷ cs) = ap (λ (l : List Store). (s ∷ c) ++ l) (made-begun (suc k - length (s ∷ c)) cs)
+
+-- ---- the changes of a program
+
+-- EACH STORES SOMETHING
+pub changes-nonempty : (fs : List Step) (r : List ℕ) → allNonEmpty (changesOf fs r) ≡ true
+unfolding changesOf
+changes-nonempty fs r = made-nonempty (stepStores fs r)
+
+pub steps-script : (fs : List Step) (r : List ℕ) → allStores (stepStores fs r) ≡ script fs r
+unfolding stepStores allStores script
+steps-script [] r = refl
+steps-script (f ∷ fs) r = ap (λ (s : List Store). f r ++ s) (steps-script fs (apply (f r) r))
+
+-- together they have its stores
+pub changes-script : (fs : List Step) (r : List ℕ) → allStores (changesOf fs r) ≡ script fs r
+unfolding changesOf
+changes-script fs r = made-stores (stepStores fs r) ∙ steps-script fs r
+
+-- those done after k stores are the steps begun
+pub changes-begun : (k : ℕ) (fs : List Step) (r : List ℕ) → begun k (changesOf fs r) ≡ begun k (stepStores fs r)
+unfolding changesOf
+changes-begun k fs r = made-begun k (stepStores fs r)

@@ -18,7 +18,7 @@ settings-requires c κs = search needs
 
 returns : tie.Need-returns
 unfolding groupWhole
-returns c = cc
+returns c = rw (c .before .is-group .ensures, c .before .before .least .ensures, c .before .before .before .core .ensures, c .settings .ensures)
 
 pub group-whole-spec : {M : Type 1} → statement M
 group-whole-spec =

@@ -1,5 +1,5 @@
 -- The two branches are the free place and the used one.
-use mathlib.Core.Path.{sym}
+use mathlib.Core.Path.{sym, _∙_}
 use Rattle.record.proofs.Laws.Whole.{marks-free, marks-used}
 use borrow.Author.Needs.{needs}
 use Rattle.whole.proofs.marks_ok.Statement.{statement}
@@ -24,7 +24,9 @@ lies-in-requires : tie.Need-lies-in-requires
 lies-in-requires c κs = search needs
 
 returns-2 : tie.Need-returns-2
-returns-2 c = cc (marks-used _ _ _ (c .before .before .before .before .if1 .left))
+returns-2 c =
+    c .lies-in .ensures
+    ∙ rw (c .before .wide .ensures, c .before .before .without-head .ensures, c .before .before .before .heads-of .ensures, marks-used _ _ _ (c .before .before .before .before .if1 .left))
 
 pub marks-ok-spec : {M : Type 1} → statement M
 marks-ok-spec =

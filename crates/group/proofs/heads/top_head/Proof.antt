@@ -10,14 +10,17 @@ use Rattle.group.proofs.heads.top_head.Tie as tie
 returns : tie.Need-returns
 returns c = sym (ap highest (c .if1 .taken) ∙ highest-none)
 
+cast-result : tie.Need-cast-result
+cast-result c = search needs
+
 sub-result : tie.Need-sub-result
 sub-result c = leading-small (c .before .args .set) (c .before .fits .set .fits) (omega arith)
 
-cast-result : tie.Need-cast-result
-cast-result c = search needs
+cast-result-2 : tie.Need-cast-result-2
+cast-result-2 c = search needs
 
 returns-2 : tie.Need-returns-2
 returns-2 c = leading-highest (c .before .args .set) (c .before .fits .set .fits) (omega arith)
 
 pub top-head-spec : {M : Type 1} → statement M
-top-head-spec = tie.close (tie.spec returns sub-result cast-result returns-2)
+top-head-spec = tie.close (tie.spec returns cast-result sub-result cast-result-2 returns-2)

@@ -16,7 +16,8 @@ rank-of-requires-2 : tie.Need-rank-of-requires-2
 rank-of-requires-2 c κs = search needs
 
 returns : tie.Need-returns
-returns c = cc
+returns c =
+    rw (c .rank-of2 .ensures, c .before .rank-of .ensures, c .before .before .is-other .ensures, c .before .before .before .has-head .ensures)
 
 pub to-mark-spec : {M : Type 1} → statement M
 to-mark-spec =

@@ -1,8 +1,10 @@
 -- Refused, all stays; else the output has room for the line.
 use mathlib.Core.Bool.{true}
 use mathlib.Core.Path.{_≡_, sym, ap, _∙_}
+use Prim.Native.Nat.{ℕ}
 use denote.Ref.{now}
 use lib.ListN.{length}
+use Rattle.lines.specs.Writing.{writeAttempt}
 use Rattle.head.specs.Fits.{usable}
 use Rattle.head.specs.Refusals.{checkNumber, writeAttemptRefusal}
 use Rattle.head.proofs.Laws.Fits.{usable-length}
@@ -43,7 +45,11 @@ same-length : tie.Need-same-length
 same-length c = search needs
 
 returns-2 : tie.Need-returns-2
-returns-2 c = sym (write-attempt-done _ _ _ _ _ (allowed (c .before .before .before .before .before)) (c .before .before .write-attempt .ensures ∙ rw (c .before .before .before .before .own .ensures .0)))
+returns-2 c =
+    let a = c .before .before .before .before .before .before .before .before .before .before .args in
+    sym
+    (write-attempt-done _ _ _ _ _ (allowed (c .before .before .before .before .before))
+    (c .before .before .write-attempt .ensures ∙ ap (λ (h : ℕ). writeAttempt (a .self .view) h (now (a .out))) (c .before .before .before .before .own .ensures .0)))
 
 pub write-attempt-spec : {M : Type 1} → statement M
 write-attempt-spec =
