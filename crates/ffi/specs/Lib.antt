@@ -1,4 +1,3 @@
 -- What the exported functions answer with, in numbers.
-pub mod Codes
 pub mod LineRead
 pub mod Ends

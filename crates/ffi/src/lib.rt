@@ -1,6 +1,5 @@
 // The calls for C and Rust to link: plain numbers, lent slices and structs by value. Each hands its arguments on and its answer back as a small number.
 pub mod calls;
-mod codes;
 pub mod reading;
 
 use codes::code;
@@ -12,7 +11,7 @@ ghost use Rattle.group.specs.Quorum.{quorumTest};
 ghost use Rattle.record.specs.Start.{startSpec};
 ghost use Rattle.record.specs.Whole.{whole};
 ghost use Rattle.recovery.specs.Recover.{recoverSpec};
-ghost use Rattle.ffi.specs.Codes.{code as codeOf, verdictCode};
+ghost use Rattle.codes.specs.Codes.{code as codeOf, verdictCode};
 
 #[no_mangle]
 pub extern "C" fn head_quorum(core: u16, least: u8, s: u16, t: u16) -> u8

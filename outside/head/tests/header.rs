@@ -222,7 +222,7 @@ fn the_wrapper_names_the_refusals_of_the_proved_source() {
         )
     });
     let numbers = named.map(|(name, refusal)| (name, u64::from(refusal.number())));
-    let codes = text("crates/ffi/src/codes.rt");
+    let codes = text("crates/codes/src/lib.rt");
     assert_eq!(
         Numbers::from(numbers),
         arms(&codes, "Refusal::", "REFUSED_")
@@ -231,7 +231,7 @@ fn the_wrapper_names_the_refusals_of_the_proved_source() {
 
 #[test]
 fn the_header_names_the_numbers_of_the_proved_source() {
-    let codes = text("crates/ffi/src/codes.rt");
+    let codes = text("crates/codes/src/lib.rt");
     let mut source = arms(&codes, "Refusal::", "REFUSED_");
     source.extend(arms(&codes, "Answer::", ""));
     source.extend(arms(&codes, "Quorum::", "QUORUM_"));

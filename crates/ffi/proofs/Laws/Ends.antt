@@ -5,8 +5,8 @@ use Prim.Native.Nat.{ℕ}
 use Rattle.group.specs.Answers.{said}
 use Rattle.head.specs.declared.session.Next.{Next}
 use Rattle.head.specs.Calls.{Ended, Wrote, ended, wrote}
-use Rattle.ffi.specs.Codes.{code}
-use Rattle.ffi.specs.Ends.{Coded, Lined, codedOf, linedOf, lengthOf}
+use Rattle.codes.specs.Codes.{code, lengthOf}
+use Rattle.ffi.specs.Ends.{Coded, Lined, codedOf, linedOf}
 
 pub ends-coded : (words : List ℕ) (next : Next) (e : Ended) (n : ℕ) → n ≡ code (said (next .answer)) → ended words next ≡ e
     → _≡_ {A = Coded} (record { number = n; words = words; session = next .session }) (codedOf e)

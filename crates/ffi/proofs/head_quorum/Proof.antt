@@ -1,6 +1,6 @@
 -- The answer's number is that of the quorum test's verdict.
 use mathlib.Core.Path.{ap, _∙_}
-use Rattle.ffi.specs.Codes.{verdictCode}
+use Rattle.codes.specs.Codes.{verdictCode}
 use borrow.Author.Needs.{needs}
 use Rattle.ffi.proofs.head_quorum.Statement.{statement}
 use Rattle.ffi.proofs.head_quorum.Tie as tie

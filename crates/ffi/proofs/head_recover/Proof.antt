@@ -1,7 +1,7 @@
 -- The answer's number is that of what `recover` says, and the words are its words.
 use mathlib.Core.Path.{ap, _∙_}
 use Rattle.record.specs.Outcome.{Outcome}
-use Rattle.ffi.specs.Codes.{code}
+use Rattle.codes.specs.Codes.{code}
 use borrow.Author.Needs.{needs}
 use Rattle.ffi.proofs.head_recover.Statement.{statement}
 use Rattle.ffi.proofs.head_recover.Tie as tie

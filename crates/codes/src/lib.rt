@@ -4,8 +4,7 @@ use group::Quorum;
 use group::Refusal;
 ghost use mathlib.Core.Path.{_≡_};
 ghost use Rattle.group.specs.Answers.{refusalNumber, verdict, said};
-ghost use Rattle.ffi.specs.Codes.{code as codeOf, verdictCode};
-ghost use Rattle.ffi.specs.Ends.{lengthOf};
+ghost use Rattle.codes.specs.Codes.{code as codeOf, verdictCode, lengthOf};
 
 fn refusal_code(r: Refusal) -> u8
     ensures { λ n. ⌜ n ≡ refusalNumber r ⌝ }

@@ -22,3 +22,18 @@ abbrev pub verdictCode : Verdict → ℕ
 verdictCode holds = 69
 verdictCode fails = 70
 verdictCode (refuses n) = n
+
+-- the length of the line written, 0 where none was
+abbrev pub lengthOf : Said → ℕ
+lengthOf started = 0
+lengthOf recovered = 0
+lengthOf entered = 0
+lengthOf heard = 0
+lengthOf attempted = 0
+lengthOf no-quorum = 0
+lengthOf numbers-run-out = 0
+lengthOf no-place = 0
+lengthOf formed = 0
+lengthOf (written n) = n
+lengthOf cut = 0
+lengthOf (refused n) = 0

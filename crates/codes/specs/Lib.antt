@@ -1,0 +1,2 @@
+-- Answers as small numbers.
+pub mod Codes
