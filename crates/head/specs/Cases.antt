@@ -112,13 +112,17 @@ seen l = head (l .answer) (primary (l .words)) (placeAt (l .words) 0)
 unfoldable pub caseTable : List Row
 caseTable =
     quorumRows 1 cases
+    -- "View 1 is 0007": heads 0, 1 and 2 attempt (0007, 1)
     ++ (row 11 (seen decided0) (head attempted 0x1f 0x10007)
     ∷ row 11 (seen decided1) (head attempted 0x1f 0x10007)
     ∷ row 11 (seen decided2) (head attempted 0x1f 0x10007)
+    -- "heads 0 and 1 form (0007, 1), head 2 has attempted only"
     ∷ row 11 (seen formed0) (head formed 0x10007 0)
     ∷ row 11 (seen formed1) (head formed 0x10007 0)
+    -- "In view 2, 0003 attempts (0003, 2)."
     ∷ row 11 (seen (decides (hears (second formed1) (second formed0)))) (head attempted 0x10007 0x20003)
     ∷ row 11 (seen (decides (hears (second formed0) (second formed1)))) (head attempted 0x10007 0x20003)
+    -- "In view 3, 001c: no quorum."
     ∷ row 11 (seen (decides (hears (third (fresh 4)) (hears (third (fresh 3)) (third decided2))))) (head no-quorum 0x1f 0x10007)
     ∷ row 11 (seen (decides (hears (third (fresh 4)) (hears (third decided2) (third (fresh 3)))))) (head no-quorum 0x1f 0)
     ∷ row 11 (seen (decides (hears (third (fresh 3)) (hears (third decided2) (third (fresh 4)))))) (head no-quorum 0x1f 0)
