@@ -149,7 +149,7 @@ pub fn write_attempt_check(s: Session, rec: &[u64], room: usize) -> Check
     if s.stage == Session::CLOSED {
         return Check::Refused(Refusal::Closed);
     }
-    if s.stage == Session::UNDECIDED {
+    if s.stage <= Session::UNDECIDED {
         return Check::Refused(Refusal::Undecided);
     }
     if room < ATTEMPT_ROOM {

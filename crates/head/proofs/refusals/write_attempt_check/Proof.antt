@@ -26,7 +26,7 @@ returns-3 : tie.Need-returns-3
 returns-3 c = sym (write-attempt-closed _ _ _ (usable-at (c .before .before .before .before)) (c .if3 .taken))
 
 returns-4 : tie.Need-returns-4
-returns-4 c = sym (write-attempt-undecided _ _ _ (usable-at (c .before .before .before .before .before .before)) (c .if4 .taken))
+returns-4 c = sym (write-attempt-undecided _ _ _ (usable-at (c .before .before .before .before .before .before)) (omega (arith, c .if4 .taken, c .before .before .before .before .if2 .left)))
 
 returns-5 : tie.Need-returns-5
 returns-5 c = sym (write-attempt-short _ _ _ (usable-at (c .before .before .before .before .before .before .before)) (omega (arith, c .before .if4 .left, c .before .before .before .if3 .left, c .before .before .before .before .before .if2 .left)) (c .if5 .taken))
