@@ -2,21 +2,31 @@
 mod show;
 
 use crate::show::print;
+use crate::show::print_refused;
 use hex::line_end;
 use reader::judge;
-use reader::read_line;
 ghost use mathlib.Core.Path.{_≡_};
-ghost use mathlib.Core.List.{[]};
+ghost use mathlib.Core.List.{_++_, []};
 ghost use Prim.Native.Nat.{_+_, _*_, _-_, _≤_};
 ghost use lib.ListN.{length, take, drop};
+ghost use Rattle.lines.specs.Reading.{judged};
 ghost use Rattle.lines.specs.Walk.{wholeLines, begun, lastLine};
-ghost use Rattle.stream.specs.Shown.{printed};
-ghost use Rattle.stream.specs.Parts.{Counts};
+ghost use Rattle.stream.specs.Shown.{shown, printed};
+ghost use Rattle.stream.specs.Parts.{Counts, room};
 
 // What a part of the input came to: bytes printed, and bytes held of the line that it begins.
 pub struct Fed {
     pub put: usize,
     pub held: usize,
+}
+
+// Prints the answer to a line, given without its newline. This is the one call of the reader, so the compiler need not copy a line's values to print them.
+fn print_line(l: &[u8], out: &mut [u8], at: usize) -> usize
+    requires { ⌜ at + room (judged (now l) .line) ≤ length (now out) ⌝ }
+    ensures { λ r. ⌜ (r ≤ at + room (judged (now (l .entry)) .line)) × (take r (now (out .exit)) ≡ take at (now (out .entry)) ++ shown (judged (now (l .entry)))) ⌝ }
+{
+    let read = judge(l);
+    print(read, out, at)
 }
 
 // Prints a line for each whole line of s; held are the bytes of s after the last of them.
@@ -30,8 +40,7 @@ fn print_lines(s: &[u8], out: &mut [u8]) -> Fed
     let mut put = 0;
     let mut end = line_end(rest);
     while end < rest.len() {
-        let read = judge(&rest[..end]);
-        put = print(read, out, put);
+        put = print_line(&rest[..end], out, put);
         let next = end + 1;
         rest = &rest[next..];
         end = line_end(rest);
@@ -84,6 +93,9 @@ pub fn finish(held: &[u8], out: &mut [u8]) -> usize
     if held.len() == 0 {
         return 0;
     }
-    let read = read_line(held);
-    print(read, out, 0)
+    let end = line_end(held);
+    if end < held.len() {
+        return print_line(&held[..end], out, 0);
+    }
+    print_refused(out, 0)
 }

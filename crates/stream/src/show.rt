@@ -117,7 +117,8 @@ fn print_state(
     put(out, b, 10)
 }
 
-fn print_refused(out: &mut [u8], at: usize) -> usize
+// What is printed for a line that breaks a rule.
+pub fn print_refused(out: &mut [u8], at: usize) -> usize
     requires { ⌜ at + 4 ≤ length (now out) ⌝ }
     ensures { λ r. ⌜ (r ≤ at + 4) × (take r (now (out .exit)) ≡ take at (now (out .entry)) ++ refusedText) ⌝ }
 {

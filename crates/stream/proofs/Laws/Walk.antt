@@ -11,10 +11,11 @@ use Rattle.lines.specs.Hex.{lineEnd, lineOf, restOf}
 use Rattle.lines.specs.Reading.{judged, readLine}
 use Rattle.lines.specs.Walk.{wholeLines, begun, lastLine}
 use Rattle.lines.proofs.Laws.Hex.{part-drop}
+use Rattle.lines.proofs.Laws.Reading.{first-line, no-line}
 use Rattle.lines.proofs.Laws.Walk.{first-whole, none-whole}
-use Rattle.stream.specs.Shown.{shown, printed}
+use Rattle.stream.specs.Shown.{shown, refusedText, printed}
 use Rattle.stream.specs.Parts.{room}
-use Rattle.stream.proofs.Laws.Shown.{room-le, printed-first}
+use Rattle.stream.proofs.Laws.Shown.{room-le, broken-shown, printed-first}
 
 pub record Walked (s out rest : List ℕ) (put end : ℕ) : Type 0 where
   pub ends : end ≡ lineEnd rest
@@ -117,7 +118,18 @@ unfolding printed lastLine
 last-none [] e = refl
 last-none (b ∷ s) e = absurd (omega arith)
 
-pub last-some : (s : List ℕ) (r : Read) → (length s ≡ 0 → ⊥) → r ≡ readLine s → shown r ≡ printed (lastLine s)
+last-some : (s : List ℕ) → (length s ≡ 0 → ⊥) → shown (readLine s) ≡ printed (lastLine s)
 unfolding printed lastLine
-last-some [] r z e = absurd (z refl)
-last-some (b ∷ s) r z e = ap shown e ∙ sym (append-nil (shown (readLine (b ∷ s))))
+last-some [] z = absurd (z refl)
+last-some (b ∷ s) z = sym (append-nil (shown (readLine (b ∷ s))))
+
+pub last-first : (s : List ℕ) (e : ℕ) → (length s ≡ 0 → ⊥) → e ≡ lineEnd s → e < length s → shown (judged (take e s)) ≡ printed (lastLine s)
+unfolding lineOf
+last-first s e z is h =
+    let i : lineEnd s < length s = omega arith in
+    ap (λ (k : ℕ). shown (judged (take k s))) is ∙ ap shown (sym (first-line s i)) ∙ last-some s z
+
+pub last-refused : (s : List ℕ) (e : ℕ) → (length s ≡ 0 → ⊥) → e ≡ lineEnd s → length s ≤ e → refusedText ≡ printed (lastLine s)
+last-refused s e z is h =
+    let i : length s ≤ lineEnd s = omega arith in
+    sym (broken-shown 1) ∙ ap shown (sym (no-line s i)) ∙ last-some s z

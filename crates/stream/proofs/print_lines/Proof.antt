@@ -20,16 +20,13 @@ line-end-requires c κs = search needs
 loop-holds : tie.Need-loop-holds Inv-loop μ-loop
 loop-holds c = (walked-none _ _ _ (c .line-end .ensures), refl)
 
-slice-aggregate-judge : tie.Need-slice-aggregate-judge Inv-loop μ-loop
-slice-aggregate-judge c = sym (length-take-le _ _ (omega arith))
+slice-aggregate-print-line : tie.Need-slice-aggregate-print-line Inv-loop μ-loop
+slice-aggregate-print-line c = sym (length-take-le _ _ (omega arith))
 
-judge-requires : tie.Need-judge-requires Inv-loop μ-loop
-judge-requires c κs = search needs
-
-print-requires : tie.Need-print-requires Inv-loop μ-loop
-print-requires c κs =
-    let l = c .before .before .before .before in
-    omega (arith, turn-room (l .loop .inv .0) (c .before .before .before .loop-test .taken) _ (c .before .judge .ensures), l .loop .inv .1)
+print-line-requires : tie.Need-print-line-requires Inv-loop μ-loop
+print-line-requires c κs =
+    let l = c .before .before .before in
+    omega (arith, turn-room (l .loop .inv .0) (c .before .before .loop-test .taken) _ refl, l .loop .inv .1)
 
 add-next : tie.Need-add-next Inv-loop μ-loop
 add-next c = search needs
@@ -51,9 +48,9 @@ loop-less c = rw length-part (omega arith)
 
 loop-again : tie.Need-loop-again Inv-loop μ-loop
 loop-again c =
-    let l = c .before .before .before .before .before .before .before .before .before in
-    let p = c .before .before .before .before .print in
-    (walked-again _ (l .loop .inv .0) (c .before .before .before .before .before .before .before .before .loop-test .taken) (c .before .before .before .before .before .before .judge .ensures) (p .ensures .0) (p .ensures .1) (c .line-end2 .ensures), p .kept .1 .0 ∙ l .loop .inv .1)
+    let l = c .before .before .before .before .before .before .before .before in
+    let p = c .before .before .before .before .print-line in
+    (walked-again _ (l .loop .inv .0) (c .before .before .before .before .before .before .before .loop-test .taken) refl (p .ensures .0) (p .ensures .1) (c .line-end2 .ensures), p .kept .1 .0 ∙ l .loop .inv .1)
 
 same-length : tie.Need-same-length Inv-loop μ-loop
 same-length c = c .before .loop .inv .1
@@ -71,9 +68,8 @@ print-lines-spec =
     μ-loop
     line-end-requires
     loop-holds
-    slice-aggregate-judge
-    judge-requires
-    print-requires
+    slice-aggregate-print-line
+    print-line-requires
     add-next
     sub-rest
     part-rest-start

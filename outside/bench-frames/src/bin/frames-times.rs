@@ -134,6 +134,11 @@ fn median(values: &[f64]) -> f64 {
     (sorted[(n - 1) / 2] + sorted[n / 2]) / 2.0
 }
 
+/// The run that other work on the machine disturbed least.
+fn least(values: &[f64]) -> f64 {
+    values.iter().copied().fold(f64::INFINITY, f64::min)
+}
+
 /// The instructions callgrind counts for one run.
 fn instructions(program: &Path, input: &Path) -> Result<u64, String> {
     let out = here().join(format!("callgrind-{}", std::process::id()));
@@ -189,17 +194,19 @@ fn times(arguments: &Arguments, input: &Path, lines: u64) -> Result<(), String> 
         let p = median(&processor[which]);
         println!(
             "{:8} median of {} rounds: {c:.3} s by the clock, {p:.3} s of processor, \
-             {:.0} MB/s, {:.0} ns a line",
+             least {:.3}, {:.0} MB/s, {:.0} ns a line",
             names[which],
             arguments.rounds,
+            least(&processor[which]),
             bytes as f64 / 1e6 / c,
             c * 1e9 / lines as f64,
         );
     }
     println!(
-        "ratio program / plain: {:.2} by the clock, {:.2} of processor",
+        "ratio program / plain: {:.2} by the clock, {:.2} of processor, {:.2} of the least",
         median(&clock[0]) / median(&clock[1]),
         median(&processor[0]) / median(&processor[1]),
+        least(&processor[0]) / least(&processor[1]),
     );
     Ok(())
 }
