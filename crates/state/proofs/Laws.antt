@@ -1,2 +1,3 @@
 -- The laws, one file a subject.
 pub mod Kept
+pub mod Fewer

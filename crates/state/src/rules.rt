@@ -10,7 +10,7 @@ use group::words::sound;
 ghost use mathlib.Core.Path.{_≡_};
 ghost use Prim.Native.Nat.{_≤_, _<_};
 ghost use lib.ListN.{getD};
-ghost use lib.Dec.{leb};
+ghost use lib.Dec.{leb, eqb};
 ghost use Rattle.loops.specs.Below.{allBelow};
 ghost use Rattle.group.specs.Words.{num, formedOk};
 ghost use Rattle.group.specs.Words.{sound as soundOf};
@@ -111,8 +111,32 @@ fn rule7(st: State) -> bool
         & all_within(places, st.count, top)
 }
 
-// The first of rules 4 to 7 that the state breaks, 0 if it keeps them.
-pub fn broken(st: State, sender: usize) -> u8
+// The word before place n, 0 before the first.
+fn prior_of(words: [u64; Group::HEADS], n: usize) -> u64
+    requires { ⌜ n ≤ 16 ⌝ }
+    ensures { λ r. ⌜ r ≡ prior words n ⌝ }
+{
+    if n == 0 {
+        return 0;
+    }
+    words[n - 1]
+}
+
+// The state keeps rules 4 to 7, by those of their tests from which the others follow.
+fn keeps_all(st: State, sender: usize) -> bool
+    requires { ⌜ (sender < 16) × (st .count ≤ 16) ⌝ }
+    ensures { λ r. ⌜ r ≡ eqb (brokenOf st sender) 0 ⌝ }
+{
+    let places = st.places;
+    let top = st.number as u64;
+    (number_of(st.primary) <= top)
+        & (number_of(prior_of(places, st.count)) <= top)
+        & rule5(st, sender)
+        & rule6(st, sender)
+}
+
+// The first of rules 4 to 7 that the state breaks, each rule by all of its tests.
+fn first_broken(st: State, sender: usize) -> u8
     requires { ⌜ (sender < 16) × (st .count ≤ 16) ⌝ }
     ensures { λ r. ⌜ r ≡ brokenOf st sender ⌝ }
 {
@@ -131,6 +155,17 @@ pub fn broken(st: State, sender: usize) -> u8
     0
 }
 
+// The first of rules 4 to 7 that the state breaks, 0 if it keeps them, as nearly every line does.
+pub fn broken(st: State, sender: usize) -> u8
+    requires { ⌜ (sender < 16) × (st .count ≤ 16) ⌝ }
+    ensures { λ r. ⌜ r ≡ brokenOf st sender ⌝ }
+{
+    if keeps_all(st, sender) {
+        return 0;
+    }
+    first_broken(st, sender)
+}
+
 // The state keeps rules 4 to 7, with at most 16 places.
 pub fn keeps_rules(st: State, sender: usize) -> bool
     requires { ⌜ sender < 16 ⌝ }
@@ -139,5 +174,5 @@ pub fn keeps_rules(st: State, sender: usize) -> bool
     if Group::PLACES < st.count {
         return false;
     }
-    broken(st, sender) == 0
+    keeps_all(st, sender)
 }

@@ -19,13 +19,13 @@ use Rattle.state.specs.declared.State.{State}
 use Rattle.state.specs.Rules.{rule4, rule5, rule6, rule7, prior, placeOk, broken, keepsRules}
 
 -- the four tests of a state that breaks none of them
-record Passed (st : State) (sender : ℕ) : Type 0 where
+pub record Passed (st : State) (sender : ℕ) : Type 0 where
   pub four : rule4 st ≡ true
   pub five : rule5 st sender ≡ true
   pub six : rule6 st sender ≡ true
   pub seven : rule7 st ≡ true
 
-unbroken : (st : State) (sender : ℕ) → broken st sender ≡ 0 → Passed st sender
+pub unbroken : (st : State) (sender : ℕ) → broken st sender ≡ 0 → Passed st sender
 unfolding broken
 unbroken st s h = go (rule4 st) (rule5 st s) (rule6 st s) (rule7 st) refl refl refl refl h
   where
@@ -62,7 +62,7 @@ pub record Kept (st : State) (sender : ℕ) : Type 0 where
 module _ (st : State) (sender : ℕ) where
   -- ---- from the tests to the facts
 
-  place-at : rule6 st sender ≡ true → (i : ℕ) → i < st .count
+  pub place-at : rule6 st sender ≡ true → (i : ℕ) → i < st .count
       → (num (prior (st .places) i) < num (place st i)) × (rank (st .primary) < rank (place st i)) × (has (place st i) sender ≡ true)
   unfolding rule6 placeOk
   place-at e i h =
@@ -78,7 +78,7 @@ module _ (st : State) (sender : ℕ) where
   some : rule6 st sender ≡ true → (i : ℕ) → i < st .count → 0 < num (place st i)
   some e i h = omega (arith, place-at e i h .0)
 
-  rising : rule6 st sender ≡ true → (i j : ℕ) → i < j → j < st .count → num (place st i) < num (place st j)
+  pub rising : rule6 st sender ≡ true → (i j : ℕ) → i < j → j < st .count → num (place st i) < num (place st j)
   unfolding prior
   rising e i zero h k = absurd (not-suc-le-zero h)
   rising e i (suc j) h k =

@@ -1,4 +1,4 @@
--- Past the test of the count, `broken` may be asked.
+-- Past the test of the count, the rules may be asked.
 use Rattle.state.specs.Rules.{keepsRules}
 use borrow.Author.Tests.{lt-leb, le-leb}
 use native.Mathlib.Omega.{arith}
@@ -10,12 +10,12 @@ returns : tie.Need-returns
 unfolding keepsRules
 returns c = simp (lt-leb (c .before .before .args .st .count) 16 (omega arith))
 
-broken-requires : tie.Need-broken-requires
-broken-requires c κs = search needs
+keeps-all-requires : tie.Need-keeps-all-requires
+keeps-all-requires c κs = search needs
 
 returns-2 : tie.Need-returns-2
 unfolding keepsRules
-returns-2 c = simp (le-leb (c .before .before .before .args .st .count) 16 (omega arith), c .broken .ensures)
+returns-2 c = simp (le-leb (c .before .before .before .args .st .count) 16 (omega arith), c .keeps-all .ensures)
 
 pub keeps-rules-spec : {M : Type 1} → statement M
-keeps-rules-spec = tie.close (tie.spec returns broken-requires returns-2)
+keeps-rules-spec = tie.close (tie.spec returns keeps-all-requires returns-2)

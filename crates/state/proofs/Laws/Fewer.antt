@@ -1,0 +1,124 @@
+-- Rules 5 and 6, and that neither last primary's number nor the last place's is above the session number, are all of rules 4 to 7: a session with a head is
+-- sound, a last formed's number is at most last primary's, and places rise.
+use mathlib.Core.Path.{_≡_, refl, sym, ap, _∙_}
+use mathlib.Core.Bool.{true, not, _&&_}
+use mathlib.Core.List.{List}
+use mathlib.Core.Logic.{⊎-elim}
+use Prim.Native.Nat.{ℕ, zero, suc, _-_, _≤_, _<_}
+use native.Mathlib.Nat.{not-suc-le-zero}
+use native.Mathlib.Omega.{arith}
+use borrow.Author.Tests.{leb-true, le-leb, eqb-true, ne-eqb}
+use lib.ListN.{getD}
+use lib.Dec.{leb, eqb}
+use Rattle.loops.specs.Below.{allBelow}
+use Rattle.loops.proofs.Laws.Truth.{and-left, and-right, and-both, or-cases, or-right, not-both, test-ext}
+use Rattle.loops.proofs.Laws.Order.{below-suc}
+use Rattle.loops.proofs.Laws.Tests.{all-at}
+use Rattle.group.specs.Heads.{has}
+use Rattle.group.specs.Words.{heads, num, sound, primaryOk, formedOk}
+use Rattle.group.proofs.Laws.Heads.{has-none}
+use Rattle.group.proofs.Laws.Words.{has-heads}
+use Rattle.group.proofs.Laws.Formed.{Formed, member, none, lower, formed-cases, lower-number}
+use Rattle.state.specs.declared.State.{State}
+use Rattle.state.specs.Rules.{rule5, rule6, prior, broken, keepsRules}
+use Rattle.state.proofs.Laws.Kept.{Kept, formed, place, place-at, rising, unbroken, kept, keeps}
+
+-- ---- sessions
+
+none-sound : sound 0 ≡ true
+unfolding sound
+none-sound = refl
+
+has-sound : (w h : ℕ) → h < 16 → has w h ≡ true → sound w ≡ true
+unfolding sound
+has-sound w h l e =
+    or-right (eqb w 0) _
+    (ap not (ne-eqb (heads w) 0 (λ z. not-both (has w h) e (sym (has-heads w h l) ∙ ap (λ (s : ℕ). has s h) z ∙ has-none h))))
+
+primary-sound : (own p : ℕ) → own < 16 → primaryOk own p ≡ true → sound p ≡ true
+unfolding primaryOk
+primary-sound own p h e = ⊎-elim (λ z. rw (eqb-true p 0 z) none-sound) (has-sound p own h) (or-cases (eqb p 0) (has p own) e)
+
+formed-sound : (own p q w : ℕ) → own < 16 → sound p ≡ true → Formed own p q w → sound w ≡ true
+formed-sound own p q w h s (member i e) = rw e s
+formed-sound own p q w h s (none o e) = rw e none-sound
+formed-sound own p q w h s (lower o a b l) = has-sound w own h a
+
+formed-number : (own p q w top : ℕ) → num p ≤ top → Formed own p q w → num w ≤ top
+formed-number own p q w top h (member i e) = rw e h
+formed-number own p q w top h (none o e) = omega arith
+formed-number own p q w top h (lower o a b l) = omega (arith, lower-number w p l)
+
+-- ---- places: the last has the highest number
+
+last-highest : (places : List ℕ) (n top : ℕ) → ((i j : ℕ) → i < j → j < n → num (getD places i 0) < num (getD places j 0))
+    → num (prior places n) ≤ top → (i : ℕ) → i < n → num (getD places i 0) ≤ top
+unfolding prior
+last-highest places zero top r l i h = absurd (not-suc-le-zero h)
+last-highest places (suc n) top r l i h = ⊎-elim (λ e. rw e l) (λ k. omega (arith, r i n k (omega arith))) (below-suc h)
+
+pub prior-none : (places : List ℕ) (n : ℕ) → n ≡ 0 → 0 ≡ prior places n
+unfolding prior
+prior-none places n e = rw e
+
+pub prior-some : (places : List ℕ) (n : ℕ) → (n ≡ 0 → ⊥) → getD places (n - 1) 0 ≡ prior places n
+unfolding prior
+prior-some places zero h = absurd (h refl)
+prior-some places (suc n) h = rw (let e : suc n - 1 ≡ n = omega arith in e)
+
+last-within : (places : List ℕ) (n top : ℕ) → ((i : ℕ) → i < n → num (getD places i 0) ≤ top) → num (prior places n) ≤ top
+unfolding prior
+last-within places zero top f = omega arith
+last-within places (suc n) top f = f n (omega arith)
+
+-- ---- all of the rules
+
+module _ (st : State) (sender : ℕ) (h : sender < 16) (c : st .count ≤ 16) where
+  enough : rule5 st sender ≡ true → rule6 st sender ≡ true → num (st .primary) ≤ st .number → num (prior (st .places) (st .count)) ≤ st .number → Kept st sender
+  unfolding rule5
+  enough five six p l =
+      let primary = and-left (primaryOk sender (st .primary)) (allBelow 16 (λ q. formedOk sender (st .primary) q (formed st q))) five in
+      let each = all-at 16 _ (and-right (primaryOk sender (st .primary)) (allBelow 16 (λ q. formedOk sender (st .primary) q (formed st q))) five) in
+      let case : (q : ℕ) → q < 16 → Formed sender (st .primary) q (formed st q) = λ q k. formed-cases sender (st .primary) q (formed st q) (each q k) in
+      let s = primary-sound sender (st .primary) h primary in
+      record {
+        count = c;
+        primary-sound = s;
+        primary-ok = primary;
+        primary-number = p;
+        formed-sound = λ q k. formed-sound sender (st .primary) q (formed st q) h s (case q k);
+        formed-ok = each;
+        formed-number = λ q k. formed-number sender (st .primary) q (formed st q) (st .number) p (case q k);
+        place-sound = λ i k. has-sound (place st i) sender h (place-at st sender six i k .2);
+        place-sender = λ i k. place-at st sender six i k .2;
+        place-above = λ i k. place-at st sender six i k .1;
+        place-some = λ i k. omega (arith, place-at st sender six i k .0);
+        place-rising = rising st sender six;
+        place-number = last-highest (st .places) (st .count) (st .number) (rising st sender six) l;
+      }
+
+  pub fewer-tests
+      : (leb (num (st .primary)) (st .number) && leb (num (prior (st .places) (st .count))) (st .number) && rule5 st sender && rule6 st sender)
+      ≡ eqb (broken st sender) 0
+  unfolding keepsRules
+  fewer-tests =
+      let p = leb (num (st .primary)) (st .number) in
+      let l = leb (num (prior (st .places) (st .count))) (st .number) in
+      let five = rule5 st sender in
+      let six = rule6 st sender in
+      let b = eqb (broken st sender) 0 in
+      test-ext (p && l && five && six) b
+      (λ t.
+      let u = and-left (p && l && five) six t in
+      let v = and-left (p && l) five u in
+      and-right (leb (st .count) 16) b
+      (keeps st sender
+      (enough (and-right (p && l) five u) (and-right (p && l && five) six t) (leb-true _ _ (and-left p l v)) (leb-true _ _ (and-right p l v)))))
+      (λ e.
+      let t = unbroken st sender (eqb-true _ _ e) in
+      let k = kept st sender (and-both (leb (st .count) 16) b (le-leb _ _ c) e) in
+      and-both (p && l && five) six
+      (and-both (p && l) five
+      (and-both p l (le-leb _ _ (k .primary-number)) (le-leb _ _ (last-within (st .places) (st .count) (st .number) (k .place-number))))
+      (t .five))
+      (t .six))
