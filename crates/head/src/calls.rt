@@ -23,26 +23,19 @@ use telling::tell;
 use writer::write_attempt;
 use writer::write_state;
 ghost use mathlib.Core.Path.{_≡_};
-ghost use mathlib.Core.List.{List};
-ghost use Prim.Native.Nat.{ℕ};
-ghost use Rattle.group.specs.Answers.{said, attempted};
-ghost use Rattle.store.specs.Desk.{desk};
+ghost use Prim.Native.Nat.{_<_};
+ghost use Rattle.group.specs.Answers.{said, attempted, cut};
 ghost use Rattle.head.specs.Calls.{ended, enterSpec, hearStateSpec, hearAttemptSpec, decideSpec, formSpec, wrote, writeStateSpec, writeAttemptSpec};
-ghost use Rattle.head.specs.Calls.{under as endsUnder};
+ghost use Rattle.head.specs.Session.{noSession};
 
-// A call whose stores are made: cut, with no session, or its answer and the next session.
-fn under(pen: Pen, answer: Answer, next: Session) -> Next
-    ensures { λ r. ⌜ ((words : List ℕ) → ended words r ≡ endsUnder (desk words pen) (said answer) next) ⌝ }
+// What a call hands back that needed more stores than it had: cut, and no session.
+fn cut_off(own: usize) -> Next
+    requires { ⌜ own < 16 ⌝ }
+    ensures { λ r. ⌜ (said (r .answer) ≡ cut) × (r .session ≡ noSession) ⌝ }
 {
-    if pen.cut {
-        return Next {
-            answer: Answer::Cut,
-            session: Session::none(),
-        };
-    }
     Next {
-        answer: answer,
-        session: next,
+        answer: Answer::Cut,
+        session: Session::none_of(own),
     }
 }
 
@@ -67,12 +60,19 @@ impl Session {
                 session: self,
             };
         }
-        let next = Session::opened(own(rec), view, heads);
+        let me = own(rec);
         let pen = Pen {
             left: stores,
             cut: false,
         };
-        under(put_entered(rec, pen, view as u64), Answer::Entered, next)
+        let after = put_entered(rec, pen, view as u64);
+        if after.cut {
+            return cut_off(me);
+        }
+        Next {
+            answer: Answer::Entered,
+            session: Session::opened(me, view, heads),
+        }
     }
 
     pub fn hear_state(self, rec: &[u64], line: &[u8]) -> Next
@@ -146,6 +146,7 @@ impl Session {
                 session: self,
             };
         }
+        let me = own(rec);
         let held = self.held;
         let pen = Pen {
             left: stores,
@@ -153,8 +154,15 @@ impl Session {
         };
         let decided = decide_stores(rec, pen, self.members, held);
         let answer = decided.answer;
-        let pen = decided.pen;
-        under(pen, answer, self.at_stage(stage_after(answer)))
+        let after = decided.pen;
+        let stage = stage_after(answer);
+        if after.cut {
+            return cut_off(me);
+        }
+        Next {
+            answer: answer,
+            session: self.at_stage(stage),
+        }
     }
 
     pub fn form(self, rec: &mut [u64], stores: u64) -> Next
@@ -167,12 +175,19 @@ impl Session {
                 session: self,
             };
         }
-        let next = self.at_stage(Session::FORMED);
+        let me = own(rec);
         let pen = Pen {
             left: stores,
             cut: false,
         };
-        under(form_stores(rec, pen, self.members), Answer::Formed, next)
+        let after = form_stores(rec, pen, self.members);
+        if after.cut {
+            return cut_off(me);
+        }
+        Next {
+            answer: Answer::Formed,
+            session: self.at_stage(Session::FORMED),
+        }
     }
 
     pub fn write_state(self, rec: &[u64], out: &mut [u8]) -> Next

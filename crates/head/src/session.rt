@@ -3,6 +3,7 @@ use group::Answer;
 use group::heads::with_head;
 use state::Held;
 use state::State;
+use state::no_state;
 use state::nothing_held;
 ghost use mathlib.Core.Path.{_≡_};
 ghost use Prim.Native.Nat.{_<_};
@@ -49,6 +50,25 @@ impl Session {
         ensures { λ r. ⌜ r ≡ noSession ⌝ }
     {
         let held = nothing_held();
+        Session {
+            stage: Session::NONE,
+            view: 0,
+            members: 0,
+            states: 0,
+            attempts: 0,
+            held: held,
+        }
+    }
+
+    // None, for a call that is cut. Own slot is stored once more, at an index known only as the program runs: the compiler then keeps the sixteen slots in one
+    // piece, and a call that is not cut copies its session as one, not slot by slot.
+    pub fn none_of(own: usize) -> Session
+        requires { ⌜ own < 16 ⌝ }
+        ensures { λ r. ⌜ r ≡ noSession ⌝ }
+    {
+        let mut held = nothing_held();
+        let blank = no_state();
+        held.of[own] = blank;
         Session {
             stage: Session::NONE,
             view: 0,

@@ -91,15 +91,17 @@ fn place_whole(rec: &[u64], i: usize) -> bool
     ensures { λ r. ⌜ r ≡ placeWhole (now (rec .entry)) i ⌝ }
 {
     let w = place_at(rec, i);
-    (w == 0)
-        | used_ok(
-            own(rec),
-            core(rec),
-            least(rec),
-            primary(rec),
-            number(rec),
-            w,
-        )
+    if w == 0 {
+        return true;
+    }
+    used_ok(
+        own(rec),
+        core(rec),
+        least(rec),
+        primary(rec),
+        number(rec),
+        w,
+    )
 }
 
 fn apart(rec: &[u64], i: usize, j: usize) -> bool

@@ -121,57 +121,70 @@ mod linked {
 
 // SAFETY, for all of the following: addresses and lengths are those of live
 // slices, and the proved functions keep within them and ask for nothing else.
+// They are inlined, so that a session is copied no oftener than C copies it.
 
+#[inline]
 pub fn quorum(core: u16, least: u8, s: u16, t: u16) -> u8 {
     unsafe { linked::head_quorum(core, least, s, t) }
 }
 
+#[inline]
 pub fn start(words: &mut [u64], head: u8, core: u16, least: u8) -> u8 {
     unsafe { linked::head_start(words.as_mut_ptr(), words.len(), head, core, least) }
 }
 
+#[inline]
 pub fn whole(words: &[u64]) -> bool {
     unsafe { linked::head_whole(words.as_ptr(), words.len()) == 1 }
 }
 
+#[inline]
 pub fn recover(words: &mut [u64], stores: u64) -> u8 {
     unsafe { linked::head_recover(words.as_mut_ptr(), words.len(), stores) }
 }
 
+#[inline]
 pub fn read_line(bytes: &[u8]) -> LineRead {
     unsafe { linked::head_read_line(bytes.as_ptr(), bytes.len()) }
 }
 
+#[inline]
 pub fn enter(words: &mut [u64], session: Session, view: u32, heads: u16, stores: u64) -> HeadEnd {
     unsafe { linked::head_enter(words.as_mut_ptr(), words.len(), session, view, heads, stores) }
 }
 
+#[inline]
 pub fn hear_state(words: &[u64], session: Session, line: &[u8]) -> HeadEnd {
     unsafe {
         linked::head_hear_state(words.as_ptr(), words.len(), session, line.as_ptr(), line.len())
     }
 }
 
+#[inline]
 pub fn hear_attempt(words: &[u64], session: Session, line: &[u8]) -> HeadEnd {
     unsafe {
         linked::head_hear_attempt(words.as_ptr(), words.len(), session, line.as_ptr(), line.len())
     }
 }
 
+#[inline]
 pub fn decide(words: &mut [u64], session: Session, stores: u64) -> HeadEnd {
     unsafe { linked::head_decide(words.as_mut_ptr(), words.len(), session, stores) }
 }
 
+#[inline]
 pub fn form(words: &mut [u64], session: Session, stores: u64) -> HeadEnd {
     unsafe { linked::head_form(words.as_mut_ptr(), words.len(), session, stores) }
 }
 
+#[inline]
 pub fn write_state(words: &[u64], session: Session, out: &mut [u8]) -> HeadLine {
     unsafe {
         linked::head_write_state(words.as_ptr(), words.len(), session, out.as_mut_ptr(), out.len())
     }
 }
 
+#[inline]
 pub fn write_attempt(words: &[u64], session: Session, out: &mut [u8]) -> HeadLine {
     unsafe {
         linked::head_write_attempt(

@@ -1,5 +1,5 @@
 -- Each call that stores by its outcomes: refused, it leaves all as it stood; not refused, it does what it is for.
-use mathlib.Core.Bool.{false, cond}
+use mathlib.Core.Bool.{true, false, cond}
 use mathlib.Core.Logic.{⊎-elim}
 use mathlib.Core.Path.{_≡_, refl, sym, ap, _∙_}
 use mathlib.Core.List.{List, [], _∷_}
@@ -8,7 +8,7 @@ use lib.Dec.{eqb}
 use Rattle.loops.proofs.Laws.Truth.{passes-or-fails, not-both}
 use Rattle.group.specs.declared.answers.Refusal.{Refusal}
 use Rattle.group.specs.declared.answers.Refusal.the-variants.{Group, Record, Line, Stranger, OldView, NoSession, OtherView, Heard, Missing, Decided, Undecided, Closed, Short}
-use Rattle.group.specs.Answers.{Said, refusalNumber, entered, attempted, formed}
+use Rattle.group.specs.Answers.{Said, refusalNumber, entered, attempted, formed, cut}
 use Rattle.store.specs.Desk.{Desk, desk, budget, putTo, run}
 use Rattle.store.specs.Program.{exec, stepBy}
 use Rattle.record.specs.Layout.{own, storeEntered}
@@ -18,7 +18,7 @@ use Rattle.plan.specs.Decide.{afterC, decideProgram, decideAnswer}
 use Rattle.plan.specs.Form.{formStep}
 use Rattle.plan.proofs.Laws.Attempt.{attempts-attempted, attempted-attempts}
 use Rattle.head.specs.declared.session.Session.{Session}
-use Rattle.head.specs.Session.{opened, atStage}
+use Rattle.head.specs.Session.{noSession, opened, atStage}
 use Rattle.head.specs.Refusals.{enterRefusal, decideRefusal, formRefusal}
 use Rattle.head.specs.Calls.{refuses, under, stores, entryStep, enterSpec, decidedStage, decideSpec, formSpec}
 
@@ -44,6 +44,15 @@ refused-by why n done kept e = rw (← e, some-number why)
 
 pub allowed-by : {A : Type 0} (n : ℕ) (done kept : A) → n ≡ 0 → cond (eqb n 0) done kept ≡ done
 allowed-by n done kept e = rw e
+
+-- what is left at the desk of a call that is cut, and of one that is not
+pub under-cut : (d : Desk) (a : Said) (s : Session) → d .pen .cut ≡ true → under d a s ≡ record { answer = cut; words = d .rec; session = noSession }
+unfolding under
+under-cut d a s e = rw e
+
+pub under-made : (d : Desk) (a : Said) (s : Session) → d .pen .cut ≡ false → under d a s ≡ record { answer = a; words = d .rec; session = s }
+unfolding under
+under-made d a s e = rw e
 
 module _ (s : Session) (r : List ℕ) (view m k : ℕ) where
   pub enter-refused : (why : Refusal) → refusalNumber why ≡ enterRefusal s r view m → enterSpec s r view m k ≡ refuses (refusalNumber why) r s

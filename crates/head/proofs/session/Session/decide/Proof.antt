@@ -4,7 +4,7 @@ use denote.Ref.{now}
 use Rattle.head.specs.Refusals.{checkNumber, decideRefusal}
 use Rattle.head.proofs.Laws.Fits.{usable-length}
 use Rattle.head.proofs.Laws.Refusals.{may-decide}
-use Rattle.head.proofs.Laws.Calls.{decide-refused, decide-done}
+use Rattle.head.proofs.Laws.Calls.{under-cut, under-made, decide-refused, decide-done}
 use borrow.Author.Needs.{needs}
 use Rattle.head.proofs.session.Session.decide.Statement.{statement}
 use Rattle.head.proofs.session.Session.decide.Tie as tie
@@ -27,23 +27,42 @@ returns c = sym (decide-refused _ _ _ (c .before .check .given .0 .0) (ap checkN
 enum-told : tie.Need-enum-told
 enum-told c = search needs
 
+own-requires : tie.Need-own-requires
+own-requires c κs = usable-length _ _ (may-decide _ _ (allowed (c .before)) .fit)
+
 decide-stores-requires : tie.Need-decide-stores-requires
-decide-stores-requires c κs = usable-length _ _ (may-decide _ _ (allowed (c .before .before)) .fit)
+decide-stores-requires c κs = usable-length _ _ (may-decide _ _ (allowed (c .before .before .before .before)) .fit)
 
 stage-after-requires : tie.Need-stage-after-requires
 stage-after-requires c κs = search needs
 
-at-stage-requires : tie.Need-at-stage-requires
-at-stage-requires c κs = search needs
-
-under-requires : tie.Need-under-requires
-under-requires c κs = search needs
+cut-off-requires : tie.Need-cut-off-requires
+cut-off-requires c κs = search needs
 
 same-length-2 : tie.Need-same-length-2
 same-length-2 c = search needs
 
 returns-2 : tie.Need-returns-2
-returns-2 c = c .under .ensures _ ∙ rw (c .before .at-stage .ensures) (decide-done _ _ _ _ _ _ (allowed (c .before .before .before .before .before .before .before .before .before)) (c .before .before .before .before .before .before .decide-stores .ensures .stores) (c .before .before .before .before .before .before .decide-stores .ensures .says) (c .before .before .stage-after .ensures .0) (c .before .before .stage-after .ensures .1))
+returns-2 c =
+    let a = c .before .before in
+    let p = a .before .before .before .before in
+    rw (c .cut-off .ensures .0, c .cut-off .ensures .1)
+    (sym (under-cut _ _ _ (c .before .if1 .taken))
+    ∙ decide-done _ _ _ _ _ _ (allowed (p .before .before .before .before .before)) (p .decide-stores .ensures .stores) (p .decide-stores .ensures .says) (a .stage-after .ensures .0) (a .stage-after .ensures .1))
+
+at-stage-requires : tie.Need-at-stage-requires
+at-stage-requires c κs = search needs
+
+same-length-3 : tie.Need-same-length-3
+same-length-3 c = search needs
+
+returns-3 : tie.Need-returns-3
+returns-3 c =
+    let a = c .before .before in
+    let p = a .before .before .before .before in
+    rw (c .at-stage .ensures)
+    (sym (under-made _ _ _ (c .before .if1 .left))
+    ∙ decide-done _ _ _ _ _ _ (allowed (p .before .before .before .before .before)) (p .decide-stores .ensures .stores) (p .decide-stores .ensures .says) (a .stage-after .ensures .0) (a .stage-after .ensures .1))
 
 pub decide-spec : {M : Type 1} → statement M
 decide-spec =
@@ -54,9 +73,12 @@ decide-spec =
     same-length
     returns
     enum-told
+    own-requires
     decide-stores-requires
     stage-after-requires
-    at-stage-requires
-    under-requires
+    cut-off-requires
     same-length-2
-    returns-2)
+    returns-2
+    at-stage-requires
+    same-length-3
+    returns-3)

@@ -5,7 +5,7 @@ use lib.ListN.{length}
 use Rattle.head.specs.Refusals.{checkNumber, enterRefusal}
 use Rattle.head.proofs.Laws.Fits.{usable-length}
 use Rattle.head.proofs.Laws.Refusals.{may-enter}
-use Rattle.head.proofs.Laws.Calls.{enter-refused, enter-done}
+use Rattle.head.proofs.Laws.Calls.{under-cut, under-made, enter-refused, enter-done}
 use borrow.Author.Needs.{needs}
 use Rattle.head.proofs.session.Session.enter.Statement.{statement}
 use Rattle.head.proofs.session.Session.enter.Tie as tie
@@ -34,20 +34,32 @@ enum-told c = search needs
 own-requires : tie.Need-own-requires
 own-requires c κs = long (c .before)
 
-opened-requires : tie.Need-opened-requires
-opened-requires c κs = search needs
-
 put-entered-requires : tie.Need-put-entered-requires
-put-entered-requires c κs = long (c .before .before .before .before)
+put-entered-requires c κs = long (c .before .before .before)
 
-under-requires : tie.Need-under-requires
-under-requires c κs = search needs
+cut-off-requires : tie.Need-cut-off-requires
+cut-off-requires c κs = search needs
 
 same-length-2 : tie.Need-same-length-2
 same-length-2 c = search needs
 
 returns-2 : tie.Need-returns-2
-returns-2 c = c .under .ensures _ ∙ rw (c .before .before .before .before .before .opened .ensures, c .before .before .before .before .before .before .own .ensures .0) (sym (enter-done _ _ _ _ _ _ (allowed (c .before .before .before .before .before .before .before .before)) (c .before .before .before .put-entered .ensures)))
+returns-2 c =
+    let p = c .before .before .before .before in
+    rw (c .cut-off .ensures .0, c .cut-off .ensures .1)
+    (sym (enter-done _ _ _ _ _ _ (allowed (p .before .before .before .before)) (p .put-entered .ensures) ∙ under-cut _ _ _ (c .before .if1 .taken)))
+
+opened-requires : tie.Need-opened-requires
+opened-requires c κs = search needs
+
+same-length-3 : tie.Need-same-length-3
+same-length-3 c = search needs
+
+returns-3 : tie.Need-returns-3
+returns-3 c =
+    let p = c .before .before .before .before in
+    rw (c .opened .ensures, p .before .before .own .ensures .0)
+    (sym (enter-done _ _ _ _ _ _ (allowed (p .before .before .before .before)) (p .put-entered .ensures) ∙ under-made _ _ _ (c .before .if1 .left)))
 
 pub enter-spec : {M : Type 1} → statement M
 enter-spec =
@@ -59,8 +71,10 @@ enter-spec =
     returns
     enum-told
     own-requires
-    opened-requires
     put-entered-requires
-    under-requires
+    cut-off-requires
     same-length-2
-    returns-2)
+    returns-2
+    opened-requires
+    same-length-3
+    returns-3)

@@ -6,7 +6,7 @@ use Rattle.record.proofs.Laws.Whole.{whole-parts}
 use Rattle.head.specs.Refusals.{checkNumber, formRefusal}
 use Rattle.head.proofs.Laws.Fits.{usable-length, usable-whole}
 use Rattle.head.proofs.Laws.Refusals.{may-form}
-use Rattle.head.proofs.Laws.Calls.{form-refused, form-done}
+use Rattle.head.proofs.Laws.Calls.{under-cut, under-made, form-refused, form-done}
 use borrow.Author.Needs.{needs}
 use Rattle.head.proofs.session.Session.form.Statement.{statement}
 use Rattle.head.proofs.session.Session.form.Tie as tie
@@ -29,20 +29,37 @@ returns c = sym (form-refused _ _ _ (c .before .check .given .0 .0) (ap checkNum
 enum-told : tie.Need-enum-told
 enum-told c = search needs
 
-at-stage-requires : tie.Need-at-stage-requires
-at-stage-requires c κs = search needs
+own-requires : tie.Need-own-requires
+own-requires c κs = usable-length _ _ (may-form _ _ (allowed (c .before)) .fit)
 
 form-stores-requires : tie.Need-form-stores-requires
-form-stores-requires c κs = (usable-length _ _ (may-form _ _ (allowed (c .before .before)) .fit), omega (arith, whole-parts _ (usable-whole _ _ (may-form _ _ (allowed (c .before .before)) .fit)) .top))
+form-stores-requires c κs =
+    let fit = may-form _ _ (allowed (c .before .before .before)) .fit in
+    (usable-length _ _ fit, omega (arith, whole-parts _ (usable-whole _ _ fit) .top))
 
-under-requires : tie.Need-under-requires
-under-requires c κs = search needs
+cut-off-requires : tie.Need-cut-off-requires
+cut-off-requires c κs = search needs
 
 same-length-2 : tie.Need-same-length-2
 same-length-2 c = search needs
 
 returns-2 : tie.Need-returns-2
-returns-2 c = c .under .ensures _ ∙ rw (c .before .before .before .before .before .at-stage .ensures) (sym (form-done _ _ _ _ (allowed (c .before .before .before .before .before .before)) (c .before .before .before .form-stores .ensures)))
+returns-2 c =
+    let p = c .before .before .before .before in
+    rw (c .cut-off .ensures .0, c .cut-off .ensures .1)
+    (sym (form-done _ _ _ _ (allowed (p .before .before .before .before)) (p .form-stores .ensures) ∙ under-cut _ _ _ (c .before .if1 .taken)))
+
+at-stage-requires : tie.Need-at-stage-requires
+at-stage-requires c κs = search needs
+
+same-length-3 : tie.Need-same-length-3
+same-length-3 c = search needs
+
+returns-3 : tie.Need-returns-3
+returns-3 c =
+    let p = c .before .before .before .before in
+    rw (c .at-stage .ensures)
+    (sym (form-done _ _ _ _ (allowed (p .before .before .before .before)) (p .form-stores .ensures) ∙ under-made _ _ _ (c .before .if1 .left)))
 
 pub form-spec : {M : Type 1} → statement M
 form-spec =
@@ -53,8 +70,11 @@ form-spec =
     same-length
     returns
     enum-told
-    at-stage-requires
+    own-requires
     form-stores-requires
-    under-requires
+    cut-off-requires
     same-length-2
-    returns-2)
+    returns-2
+    at-stage-requires
+    same-length-3
+    returns-3)
