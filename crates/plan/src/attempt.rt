@@ -2,6 +2,7 @@
 use crate::changes::attempt;
 use crate::members::highest_of;
 use crate::members::is_member;
+use crate::members::members_end;
 use crate::members::of_member;
 use group::Answer;
 use group::Group;
@@ -52,8 +53,9 @@ fn highest_number(rec: &[u64], m: u16, held: Held) -> u64
 {
     let p = own(rec);
     let mine = number(rec);
+    let end = members_end(m);
     let mut n: u64 = 0;
-    for q in 0..Group::HEADS {
+    for q in 0..end {
         let st = held.of[q];
         n = larger(n, of_member(m, p, q, mine, state_number(st)));
     }
@@ -67,8 +69,9 @@ fn primaries(rec: &[u64], m: u16, held: Held) -> [u64; Group::HEADS]
 {
     let p = own(rec);
     let mine = primary(rec);
+    let end = members_end(m);
     let mut all = [0u64; Group::HEADS];
-    for q in 0..Group::HEADS {
+    for q in 0..end {
         let st = held.of[q];
         all[q] = of_member(m, p, q, mine, st.primary);
     }
