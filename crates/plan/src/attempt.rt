@@ -122,12 +122,16 @@ fn state_weighed(rec: &[u64], m: u16, top: u64, st: State) -> bool
 {
     let places = st.places;
     let count = st.count;
-    let mut ok = true;
     for j in 0..Group::PLACES {
+        if count <= j {
+            return true;
+        }
         let w = places[j];
-        ok = ok & ((count <= j) | weighed(rec, m, top, w));
+        if !weighed(rec, m, top, w) {
+            return false;
+        }
     }
-    ok
+    true
 }
 
 // The sessions that head q lists, of whom state st is held.
