@@ -9,6 +9,7 @@ use group::words::rank_of;
 use group::words::session_of;
 use members::highest_of;
 use members::is_member;
+use members::members_end;
 use members::of_member;
 use record::layout::core;
 use record::layout::least;
@@ -44,8 +45,9 @@ fn highest_number(rec: &[u64], m: u16, held: Held) -> u64
 {
     let p = own(rec);
     let mine = number(rec);
+    let end = members_end(m);
     let mut n: u64 = 0;
-    for q in 0..Group::HEADS {
+    for q in 0..end {
         let st = held.of[q];
         n = larger(n, of_member(m, p, q, mine, state_number(st)));
     }
@@ -59,8 +61,9 @@ fn primaries(rec: &[u64], m: u16, held: Held) -> [u64; Group::HEADS]
 {
     let p = own(rec);
     let mine = primary(rec);
+    let end = members_end(m);
     let mut all = [0u64; Group::HEADS];
-    for q in 0..Group::HEADS {
+    for q in 0..end {
         let st = held.of[q];
         all[q] = of_member(m, p, q, mine, st.primary);
     }
@@ -111,12 +114,16 @@ fn state_weighed(rec: &[u64], m: u16, top: u64, st: State) -> bool
 {
     let places = st.places;
     let count = st.count;
-    let mut ok = true;
     for j in 0..Group::PLACES {
+        if count <= j {
+            return true;
+        }
         let w = places[j];
-        ok = ok & ((count <= j) | weighed(rec, m, top, w));
+        if !weighed(rec, m, top, w) {
+            return false;
+        }
     }
-    ok
+    true
 }
 
 // The sessions that head q lists, of whom state st is held.

@@ -1,11 +1,12 @@
 // The members of the view: own head, and the others.
 use group::Group;
+use group::heads::top_head;
 use group::heads::wide;
 use group::words::has_head;
 use group::words::rank_of;
 ghost use mathlib.Core.Path.{_≡_};
-ghost use mathlib.Core.Bool.{not, _&&_, cond};
-ghost use Prim.Native.Nat.{_<_};
+ghost use mathlib.Core.Bool.{false, not, _&&_, cond};
+ghost use Prim.Native.Nat.{ℕ, _≤_, _<_};
 ghost use lib.Dec.{eqb, ltb};
 ghost use lib.ListN.{getD};
 ghost use Rattle.group.specs.Heads.{has};
@@ -25,6 +26,13 @@ pub fn is_other(m: u16, own: usize, q: usize) -> bool
     ensures { λ r. ⌜ r ≡ (has m q && not (eqb q own)) ⌝ }
 {
     is_member(m, q) & (q != own)
+}
+
+// One above the highest member: no head from there on is a member.
+pub fn members_end(m: u16) -> usize
+    ensures { λ r. ⌜ (r ≤ 16) × ((q : ℕ) → r ≤ q → has m q ≡ false) ⌝ }
+{
+    top_head(m) as usize + 1
 }
 
 pub fn choose(c: bool, a: u64, b: u64) -> u64

@@ -10,3 +10,4 @@ pub mod Attempt
 pub mod After
 pub mod Decide
 pub mod Form
+pub mod Ends

@@ -1,4 +1,4 @@
--- Before turn q the number is the highest of the heads before q.
+-- Before turn q the number is the highest of the heads before q, and no head from the end on is a member.
 use mathlib.Core.Path.{_≡_, sym, ap, _∙_}
 use Prim.Native.Nat.{_≤_, _-_, max}
 use native.Mathlib.Omega.{arith}
@@ -7,20 +7,24 @@ use Rattle.loops.specs.Below.{foldBelow}
 use Rattle.loops.proofs.Laws.Fold.{fold-none, fold-again, fold-end}
 use Rattle.plan.specs.Attempt.{numberOf, highestNumber}
 use Rattle.plan.proofs.Laws.Branches.{number-by}
+use Rattle.plan.proofs.Laws.Ends.{numbers-end}
 use Rattle.attempting.proofs.highest_number.Statement.{statement}
 use Rattle.attempting.proofs.highest_number.Tie as tie
 
 abbrev Inv-loop : tie.InvT-loop
-Inv-loop rec m held p mine n₀ q₀ n q = (q ≤ 16) × (n ≡ foldBelow q (λ k x. max x (numberOf m held rec k)) 0)
+Inv-loop rec m held p mine end n₀ q₀ n q = (q ≤ end) × (n ≡ foldBelow q (λ k x. max x (numberOf m held rec k)) 0)
 
 abbrev μ-loop : tie.MeasureT-loop
-μ-loop rec m held p mine n₀ q₀ n q = 16 - q
+μ-loop rec m held p mine end n₀ q₀ n q = end - q
 
 own-requires : tie.Need-own-requires Inv-loop μ-loop
 own-requires c κs = search needs
 
 number-requires : tie.Need-number-requires Inv-loop μ-loop
 number-requires c κs = search needs
+
+members-end-requires : tie.Need-members-end-requires Inv-loop μ-loop
+members-end-requires c κs = search needs
 
 loop-holds : tie.Need-loop-holds Inv-loop μ-loop
 loop-holds c = (omega arith, sym (fold-none _ _))
@@ -47,11 +51,14 @@ loop-less : tie.Need-loop-less Inv-loop μ-loop
 loop-less c = omega arith
 
 loop-again : tie.Need-loop-again Inv-loop μ-loop
-loop-again c = (omega arith, fold-again _ _ _ (c .before .before .before .before .before .loop .inv .1) (c .larger .ensures ∙ ap (max _) (c .before .of-member .ensures ∙ number-by _ _ _ _ (c .before .before .before .before .before .before .before .own .ensures .0) (c .before .before .before .before .before .before .number .ensures) (c .before .before .state-number .ensures))))
+loop-again c = (omega arith, fold-again _ _ _ (c .before .before .before .before .before .loop .inv .1) (c .larger .ensures ∙ ap (max _) (c .before .of-member .ensures ∙ number-by _ _ _ _ (c .before .before .before .before .before .before .before .before .own .ensures .0) (c .before .before .before .before .before .before .before .number .ensures) (c .before .before .state-number .ensures))))
 
 returns : tie.Need-returns Inv-loop μ-loop
 unfolding highestNumber
-returns c = c .before .loop .inv .1 ∙ fold-end _ _ _ _ (c .before .loop .inv .0) (c .loop-test .left)
+returns c =
+    let l = c .before .loop in
+    let e = c .before .before .members-end .ensures in
+    l .inv .1 ∙ fold-end _ _ _ _ (l .inv .0) (c .loop-test .left) ∙ numbers-end _ _ _ _ (e .1) (e .0)
 
 pub highest-number-spec : {M : Type 1} → statement M
 highest-number-spec =
@@ -61,6 +68,7 @@ highest-number-spec =
     μ-loop
     own-requires
     number-requires
+    members-end-requires
     loop-holds
     mul-st
     element-copy-out-st
