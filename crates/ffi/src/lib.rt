@@ -32,7 +32,7 @@ pub extern "C" fn head_start(words: &mut [u64], head: u8, core: u16, least: u8) 
 pub extern "C" fn head_recover(words: &mut [u64], stores: u64) -> u8
     ensures { λ r. ⌜ (r ≡ codeOf (recoverSpec (now (words .entry)) stores .answer)) × (now (words .exit) ≡ recoverSpec (now (words .entry)) stores .rec) ⌝ }
 {
-    code(recovery::recover(words, stores))
+    code(mending::recover(words, stores))
 }
 
 // 1 for a whole record, 0 for any other words.

@@ -1,8 +1,8 @@
 -- The trial's pen has a store for every word, so that on the copy the steps end.
 use Rattle.recovery.proofs.Laws.Call.{trial-whole}
 use borrow.Author.Needs.{needs}
-use Rattle.recovery.proofs.mends.Statement.{statement}
-use Rattle.recovery.proofs.mends.Tie as tie
+use Rattle.mending.proofs.mends.Statement.{statement}
+use Rattle.mending.proofs.mends.Tie as tie
 
 copy-requires : tie.Need-copy-requires
 copy-requires c κs = search needs

@@ -1,10 +1,10 @@
 -- The change of the place's word, asked where the place is at or below last primary, is the step.
 use mathlib.Core.Path.{_∙_}
 use Rattle.store.specs.Program.{stepBy}
 use Rattle.recovery.specs.Recover.{clearStep}
 use borrow.Author.Needs.{needs}
-use Rattle.recovery.proofs.clear_place.Statement.{statement}
-use Rattle.recovery.proofs.clear_place.Tie as tie
+use Rattle.mending.proofs.clear_place.Statement.{statement}
+use Rattle.mending.proofs.clear_place.Tie as tie
 
 place-at-requires : tie.Need-place-at-requires
 place-at-requires c κs = search needs

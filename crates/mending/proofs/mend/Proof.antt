@@ -1,8 +1,8 @@
 -- The four parts, one after the other, are the program.
 use Rattle.recovery.proofs.Laws.Call.{mend-chain}
 use borrow.Author.Needs.{needs}
-use Rattle.recovery.proofs.mend.Statement.{statement}
-use Rattle.recovery.proofs.mend.Tie as tie
+use Rattle.mending.proofs.mend.Statement.{statement}
+use Rattle.mending.proofs.mend.Tie as tie
 
 raise-requires : tie.Need-raise-requires
 raise-requires c κs = search needs

@@ -5,9 +5,9 @@ use Prim.Native.Nat.{_≤_, _-_}
 use mathlib.Core.Path.{_≡_, sym}
 use Rattle.loops.specs.Below.{foldBelow}
 use Rattle.loops.proofs.Laws.Fold.{fold-none, fold-next, fold-end}
 use Rattle.recovery.specs.Recover.{higher, greatest}
-use Rattle.recovery.proofs.greatest.Statement.{statement}
-use Rattle.recovery.proofs.greatest.Tie as tie
+use Rattle.mending.proofs.greatest.Statement.{statement}
+use Rattle.mending.proofs.greatest.Tie as tie
 
 abbrev Inv-loop : tie.InvT-loop
 Inv-loop rec top₀ i₀ top i = (i ≤ 16) × (top ≡ foldBelow i (higher rec) top₀)

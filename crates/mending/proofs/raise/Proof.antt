@@ -1,10 +1,10 @@
 -- The change of the session number to the greatest number is the step.
 use mathlib.Core.Path.{_∙_}
 use Rattle.store.specs.Program.{stepBy}
 use Rattle.recovery.specs.Recover.{raiseStep}
 use borrow.Author.Needs.{needs}
-use Rattle.recovery.proofs.raise.Statement.{statement}
-use Rattle.recovery.proofs.raise.Tie as tie
+use Rattle.mending.proofs.raise.Statement.{statement}
+use Rattle.mending.proofs.raise.Tie as tie
 
 greatest-requires : tie.Need-greatest-requires
 greatest-requires c κs = search needs

@@ -1,10 +1,10 @@
 -- The change of last formed to last primary, asked where q is in it, is the step.
 use mathlib.Core.Path.{_∙_}
 use Rattle.store.specs.Program.{stepBy}
 use Rattle.recovery.specs.Recover.{formedStep}
 use borrow.Author.Needs.{needs}
-use Rattle.recovery.proofs.set_formed.Statement.{statement}
-use Rattle.recovery.proofs.set_formed.Tie as tie
+use Rattle.mending.proofs.set_formed.Statement.{statement}
+use Rattle.mending.proofs.set_formed.Tie as tie
 
 primary-requires : tie.Need-primary-requires
 primary-requires c κs = search needs

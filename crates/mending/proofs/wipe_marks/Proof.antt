@@ -1,10 +1,10 @@
 -- The change of the marks to none, asked where the place is free, is the step.
 use mathlib.Core.Path.{_∙_}
 use Rattle.store.specs.Program.{stepBy}
 use Rattle.recovery.specs.Recover.{wipeStep}
 use borrow.Author.Needs.{needs}
-use Rattle.recovery.proofs.wipe_marks.Statement.{statement}
-use Rattle.recovery.proofs.wipe_marks.Tie as tie
+use Rattle.mending.proofs.wipe_marks.Statement.{statement}
+use Rattle.mending.proofs.wipe_marks.Tie as tie
 
 place-at-requires : tie.Need-place-at-requires
 place-at-requires c κs = search needs

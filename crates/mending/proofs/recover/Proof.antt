@@ -1,13 +1,13 @@
 -- Refused on another length, or where the trial is not whole; else the steps under the call's pen, cut or done.
 use Rattle.recovery.proofs.Laws.Call.{other-length, right-length, recover-refused, recover-cut, recover-done}
 use Rattle.recovery.specs.Recover.{mendable}
 use Rattle.loops.proofs.Laws.Truth.{failed, passed}
 use denote.Ref.{now}
 use mathlib.Core.Bool.{true}
 use mathlib.Core.Path.{_≡_, _∙_}
 use borrow.Author.Needs.{needs}
-use Rattle.recovery.proofs.recover.Statement.{statement}
-use Rattle.recovery.proofs.recover.Tie as tie
+use Rattle.mending.proofs.recover.Statement.{statement}
+use Rattle.mending.proofs.recover.Tie as tie
 
 returns : tie.Need-returns
 returns c = recover-refused _ _ (other-length _ (c .if1 .taken))
