@@ -3,7 +3,3 @@ pub mod Refusals
 pub mod Calls
 pub mod Hearing
 pub mod Writing
-pub mod Determined
-pub mod Kept
-pub mod Every
-pub mod Cases

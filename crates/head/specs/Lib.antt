@@ -4,5 +4,3 @@ pub mod Session
 pub mod Fits
 pub mod Refusals
 pub mod Calls
-pub mod Statements
-pub mod Cases

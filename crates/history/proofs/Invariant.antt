@@ -17,7 +17,7 @@ use Rattle.record.proofs.Laws.Fresh.{fresh-reads, fresh-own, fresh-core, fresh-
 use Rattle.recovery.specs.Recover.{mended}
 use Rattle.head.specs.declared.session.Session.{Session}
 use Rattle.head.specs.Session.{noSession}
-use Rattle.head.specs.Statements.{Sized}
+use Rattle.calls.specs.Statements.{Sized}
 use Rattle.head.proofs.Laws.Fits.{Fitting}
 use Rattle.chain.specs.Model.{Group}
 use Rattle.chain.specs.Quorum.{groupOf}

@@ -31,7 +31,7 @@ use Rattle.head.specs.Session.{noSession, atStage}
 use Rattle.head.specs.Refusals.{decideRefusal}
 use Rattle.head.specs.Calls.{Ended, decidedStage, decideSpec}
 use Rattle.head.proofs.Laws.Refusals.{MayDecide, may-decide}
-use Rattle.head.proofs.Laws.Kept.{decide-given, decide-fits, at-stage-sized}
+use Rattle.calls.proofs.Laws.Kept.{decide-given, decide-fits, at-stage-sized}
 use Rattle.chain.specs.Model.{Group}
 use Rattle.chain.specs.Words.{Rec}
 use Rattle.chain.specs.World.{Phase.undecided as undecided, Phase.closed as closed, Phase.trying as trying, Vol, gone, live, Decides, Turns}

@@ -25,7 +25,7 @@ use Rattle.head.specs.Session.{noSession, opened}
 use Rattle.head.specs.Refusals.{enterRefusal}
 use Rattle.head.specs.Calls.{Ended, entryStep, enterSpec}
 use Rattle.head.proofs.Laws.Refusals.{MayEnter, may-enter}
-use Rattle.head.proofs.Laws.Kept.{opened-fits, opened-sized}
+use Rattle.calls.proofs.Laws.Kept.{opened-fits, opened-sized}
 use Rattle.head.proofs.Laws.Fits.{usable-whole}
 use Rattle.chain.specs.Model.{Group}
 use Rattle.chain.specs.Words.{Enters}

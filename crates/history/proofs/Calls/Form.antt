@@ -34,7 +34,7 @@ use Rattle.head.specs.Session.{noSession, atStage}
 use Rattle.head.specs.Refusals.{formRefusal}
 use Rattle.head.specs.Calls.{Ended, refuses, formSpec}
 use Rattle.head.proofs.Laws.Refusals.{MayForm, may-form}
-use Rattle.head.proofs.Laws.Kept.{form-given, form-fits, at-stage-sized}
+use Rattle.calls.proofs.Laws.Kept.{form-given, form-fits, at-stage-sized}
 use Rattle.chain.specs.Model.{Group}
 use Rattle.chain.specs.Words.{guard, sess, Member, Here, Forms}
 use Rattle.chain.specs.World.{Phase.trying as trying, Phase.primary as prime, Session as Heard, gone, live, Goes, loses, rests, then, Reached, does}

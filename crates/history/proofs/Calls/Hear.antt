@@ -27,7 +27,7 @@ use Rattle.head.specs.Refusals.{ofStateLine, hearStateRefusal, ofAttemptLine, h
 use Rattle.head.specs.Calls.{Ended, heardState, hearStateSpec, heardAttempt, hearAttemptSpec}
 use Rattle.head.proofs.Laws.Refusals.{MayHear, may-hear-state, may-hear-attempt}
 use Rattle.head.proofs.Laws.Hearing.{state-kept, attempt-kept}
-use Rattle.head.proofs.Laws.Kept.{heard-fits, heard-sized, attempt-fits, attempt-sized}
+use Rattle.calls.proofs.Laws.Kept.{heard-fits, heard-sized, attempt-fits, attempt-sized}
 use Rattle.chain.specs.Model.{Group}
 use Rattle.chain.specs.World.{Phase, Phase.undecided as undecided, Phase.trying as trying, Phase.closed as closed, Phase.primary as prime, live, Turn, hears, rests, then}
 use Rattle.chain.proofs.Laws.Calls.{turn-to}

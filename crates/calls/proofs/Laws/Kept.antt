@@ -31,13 +31,13 @@ use Rattle.plan.specs.Decide.{afterC, decideProgram}
 use Rattle.plan.specs.Statements.{Given, Forming}
 use Rattle.plan.proofs.Laws.Decide.{decided}
 use Rattle.plan.proofs.Laws.Form.{formed-reads, forms-primary, attempt-places}
 use Rattle.head.specs.declared.session.Session.{Session}
 use Rattle.head.specs.Session.{opened, withState, withAttempt, atStage}
 use Rattle.head.specs.Fits.{placed, fits}
 use Rattle.head.specs.Calls.{decidedStage}
-use Rattle.head.specs.Statements.{Sized}
+use Rattle.calls.specs.Statements.{Sized}
 use Rattle.head.proofs.Laws.Fits.{Fitting}
 use Rattle.head.proofs.Laws.Refusals.{MayHear}
 
 -- ---- a head added to a set
 

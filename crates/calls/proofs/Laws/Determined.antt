@@ -4,10 +4,10 @@ use mathlib.Core.List.{List}
 use Prim.Native.Nat.{ℕ}
 use Rattle.group.specs.declared.answers.Answer.{Answer}
 use Rattle.group.proofs.Laws.Answers.{said-one}
 use Rattle.head.specs.declared.session.Session.{Session}
 use Rattle.head.specs.declared.session.Next.{Next}
 use Rattle.head.specs.Calls.{Ended, ended, Wrote, wrote, enterSpec, hearStateSpec, hearAttemptSpec, decideSpec, formSpec, writeStateSpec, writeAttemptSpec}
-use Rattle.head.specs.Statements.{enter, hear-state, hear-attempt, decide, form, write-state, write-attempt, Determined}
+use Rattle.calls.specs.Statements.{enter, hear-state, hear-attempt, decide, form, write-state, write-attempt, Determined}
 
 one-next : (x y : Next) → x .answer ≡ y .answer → x .session ≡ y .session → x ≡ y
 one-next x y e f = ap₂ (λ (a : Answer) (s : Session). record { answer = a; session = s }) e f

@@ -12,9 +12,9 @@ use Rattle.record.specs.Layout.{primary, placeAt}
 use Rattle.recovery.specs.Recover.{mended}
 use Rattle.recovery.specs.Cases.{sixStores, formed as formedWords}
 use Rattle.lines.specs.Hex.{lineEnd}
 use Rattle.head.specs.Session.{noSession}
 use Rattle.head.specs.Calls.{formsChanges}
-use Rattle.head.specs.Statements.{Call, enter, hear-state, hear-attempt, decide, form, write-state, write-attempt, Left, leaves}
+use Rattle.calls.specs.Statements.{Call, enter, hear-state, hear-attempt, decide, form, write-state, write-attempt, Left, leaves}
 
 -- what can be seen of a case: a quorum test's verdict; a head after a call, by the answer, last primary and the first place; the changes of a call; an answer; the
 -- words of a record

@@ -33,16 +33,16 @@ use Rattle.plan.specs.Decide.{afterC, decideProgram, decideAnswer, decideChange
 use Rattle.plan.specs.Form.{formStep, formChanges}
 use Rattle.plan.proofs.Laws.Decide.{decide-sounds, decide-whole}
 use Rattle.plan.proofs.Laws.Form.{form-sounds, form-whole}
 use Rattle.head.specs.declared.session.Session.{Session}
 use Rattle.head.specs.Session.{noSession, opened, withState, withAttempt, atStage}
 use Rattle.head.specs.Fits.{usable}
 use Rattle.head.specs.Refusals.{enterRefusal, hearStateRefusal, hearAttemptRefusal, decideRefusal, formRefusal, stateRefusal, attemptRefusal, ofStateLine, ofAttemptLine}
 use Rattle.head.specs.Calls.{Ended, refuses, under, stores, entryStep, heardState, heardAttempt, decidedStage, enterSpec, hearStateSpec, hearAttemptSpec, decideSpec, formSpec, Wrote, writes, writeStateSpec, writeAttemptSpec, enterChanges, decidesChanges, formsChanges}
-use Rattle.head.specs.Statements.{changesBy, storesOf, enter, hear-state, hear-attempt, decide, form, write-state, write-attempt, ending, writing, Good, RefusedKeeps, CutLeavesNone, KeptByEveryCall, StoresItsChanges, NoEmptyChange, SoundChanges, RecoversEveryCall}
+use Rattle.calls.specs.Statements.{changesBy, storesOf, enter, hear-state, hear-attempt, decide, form, write-state, write-attempt, ending, writing, Good, RefusedKeeps, CutLeavesNone, KeptByEveryCall, StoresItsChanges, NoEmptyChange, SoundChanges, RecoversEveryCall}
 use Rattle.head.proofs.Laws.Fits.{Fitting, make-usable, fits-parts, make-fits}
 use Rattle.head.proofs.Laws.Refusals.{MayEnter, MayDecide, MayForm, may-enter, may-hear-state, may-hear-attempt, may-decide, may-form}
 use Rattle.head.proofs.Laws.Hearing.{state-kept, attempt-kept, hear-state-reads, hear-attempt-reads}
-use Rattle.head.proofs.Laws.Kept.{opened-fits, opened-sized, heard-fits, heard-sized, attempt-fits, attempt-sized, at-stage-sized, decide-given, decide-fits, form-given, form-fits}
+use Rattle.calls.proofs.Laws.Kept.{opened-fits, opened-sized, heard-fits, heard-sized, attempt-fits, attempt-sized, at-stage-sized, decide-given, decide-fits, form-given, form-fits}
 
 -- ---- the answers apart
 

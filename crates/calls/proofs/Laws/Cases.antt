@@ -28,11 +28,11 @@ use Rattle.plan.specs.Decide.{afterC, decideAnswer, decideProgram, learning}
 use Rattle.plan.specs.Form.{formChanges, formStep, viewSession}
 use Rattle.plan.specs.Marks.{adding, markStep, marked, toMark}
 use Rattle.plan.specs.Members.{formedWith, other}
 use Rattle.head.specs.Calls.{decideSpec, decidedStage, enterSpec, entryStep, formSpec, formsChanges, hearAttemptSpec, hearStateSpec, stores, under, writeAttemptSpec, writeStateSpec, writes}
-use Rattle.head.specs.Cases.{caseTable, decided0, decided1, decided2, expected, formed0, formed1, given, quorumRows, ready2, Row, Seen, TwelveCases}
+use Rattle.calls.specs.Cases.{caseTable, decided0, decided1, decided2, expected, formed0, formed1, given, quorumRows, ready2, Row, Seen, TwelveCases}
 use Rattle.head.specs.Fits.{fits, heardFits, heldFits, placed, stageFits, stateFits as stateFits-of-fits, usable, viewFits}
 use Rattle.head.specs.Refusals.{attemptRefusal, decideRefusal, enterRefusal, formRefusal, hearAttemptRefusal, hearStateRefusal, stateRefusal, writeAttemptRefusal, writeStateRefusal}
 use Rattle.head.specs.Session.{atStage, noSession, opened, withAttempt, withState}
 
 -- of each row the definitions give what document 01 says
 data Hold : List Row → Type 0 where
