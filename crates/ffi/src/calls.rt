@@ -32,11 +32,9 @@ pub extern "C" fn head_enter(
 {
     let next = session.enter(words, view, heads, stores);
     let answer = next.answer;
+    let code = code(answer);
     let session = next.session;
-    HeadEnd {
-        code: code(answer),
-        session,
-    }
+    HeadEnd { code, session }
 }
 
 #[no_mangle]
@@ -71,11 +69,9 @@ pub extern "C" fn head_decide(words: &mut [u64], session: Session, stores: u64) 
 {
     let next = session.decide(words, stores);
     let answer = next.answer;
+    let code = code(answer);
     let session = next.session;
-    HeadEnd {
-        code: code(answer),
-        session,
-    }
+    HeadEnd { code, session }
 }
 
 #[no_mangle]
@@ -84,11 +80,9 @@ pub extern "C" fn head_form(words: &mut [u64], session: Session, stores: u64) ->
 {
     let next = session.form(words, stores);
     let answer = next.answer;
+    let code = code(answer);
     let session = next.session;
-    HeadEnd {
-        code: code(answer),
-        session,
-    }
+    HeadEnd { code, session }
 }
 
 #[no_mangle]

@@ -4,6 +4,8 @@ ghost use Prim.Native.Nat.{_<_};
 ghost use lib.ListN.{length};
 ghost use Rattle.store.specs.Desk.{desk, store, putTo, run, storeIf, diffIf};
 
+// A pen that stays as it is, is handed back field by field: copied whole, the bytes between its fields and its end would be copied too, and each such copy
+// waits for the one before.
 pub struct Pen {
     pub left: u64,
     pub cut: bool,
@@ -15,7 +17,10 @@ pub fn put(rec: &mut [u64], pen: Pen, at: usize, w: u64) -> Pen
     ensures { λ r. ⌜ desk (now (rec .exit)) r ≡ putTo (store at w) (desk (now (rec .entry)) pen) ⌝ }
 {
     if pen.cut {
-        return pen;
+        return Pen {
+            left: pen.left,
+            cut: pen.cut,
+        };
     }
     let left = pen.left;
     if left == 0 {
@@ -34,7 +39,10 @@ pub fn put_if(rec: &mut [u64], pen: Pen, asked: bool, at: usize, w: u64) -> Pen
     ensures { λ r. ⌜ desk (now (rec .exit)) r ≡ run (storeIf asked (store at w)) (desk (now (rec .entry)) pen) ⌝ }
 {
     if !asked {
-        return pen;
+        return Pen {
+            left: pen.left,
+            cut: pen.cut,
+        };
     }
     put(rec, pen, at, w)
 }
@@ -45,10 +53,16 @@ pub fn change(rec: &mut [u64], pen: Pen, asked: bool, at: usize, w: u64) -> Pen
     ensures { λ r. ⌜ desk (now (rec .exit)) r ≡ run (diffIf asked (store at w) (now (rec .entry))) (desk (now (rec .entry)) pen) ⌝ }
 {
     if !asked {
-        return pen;
+        return Pen {
+            left: pen.left,
+            cut: pen.cut,
+        };
     }
     if rec[at] == w {
-        return pen;
+        return Pen {
+            left: pen.left,
+            cut: pen.cut,
+        };
     }
     put(rec, pen, at, w)
 }

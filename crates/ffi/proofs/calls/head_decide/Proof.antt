@@ -14,7 +14,7 @@ same-length : tie.Need-same-length
 same-length c = search needs
 
 returns : tie.Need-returns
-returns c = ends-coded _ (c .before .before .before .before .decide .result) _ _ (c .code .ensures) (c .before .before .before .before .decide .ensures)
+returns c = ends-coded _ (c .before .before .before .before .decide .result) _ _ (c .before .code .ensures) (c .before .before .before .before .decide .ensures)
 
 pub head-decide-spec : {M : Type 1} → statement M
 head-decide-spec = tie.close (tie.spec decide-requires code-requires same-length returns)

@@ -14,7 +14,7 @@ same-length : tie.Need-same-length
 same-length c = search needs
 
 returns : tie.Need-returns
-returns c = ends-coded _ (c .before .before .before .before .enter .result) _ _ (c .code .ensures) (c .before .before .before .before .enter .ensures)
+returns c = ends-coded _ (c .before .before .before .before .enter .result) _ _ (c .before .code .ensures) (c .before .before .before .before .enter .ensures)
 
 pub head-enter-spec : {M : Type 1} → statement M
 head-enter-spec = tie.close (tie.spec enter-requires code-requires same-length returns)

@@ -14,7 +14,7 @@ same-length : tie.Need-same-length
 same-length c = search needs
 
 returns : tie.Need-returns
-returns c = ends-coded _ (c .before .before .before .before .form .result) _ _ (c .code .ensures) (c .before .before .before .before .form .ensures)
+returns c = ends-coded _ (c .before .before .before .before .form .result) _ _ (c .before .code .ensures) (c .before .before .before .before .form .ensures)
 
 pub head-form-spec : {M : Type 1} → statement M
 head-form-spec = tie.close (tie.spec form-requires code-requires same-length returns)
