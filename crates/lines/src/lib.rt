@@ -4,7 +4,9 @@ mod hex;
 mod reader;
 mod writer;
 
+pub use hex::byte_at;
 pub use hex::digit_of;
+pub use hex::digits;
 pub use hex::line_end;
 pub use hex::rest;
 pub use reader::judge;
