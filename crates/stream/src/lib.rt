@@ -12,6 +12,8 @@ ghost use lib.ListN.{length, take, drop};
 ghost use Rattle.lines.specs.Walk.{wholeLines, begun, lastLine};
 ghost use Rattle.stream.specs.Shown.{printed};
 ghost use Rattle.stream.specs.Parts.{Counts};
+pub use show::put_field;
+pub use show::put_heads;
 
 // What a part of the input came to: bytes printed, and bytes held of the line that it begins.
 pub struct Fed {
