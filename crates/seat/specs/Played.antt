@@ -137,7 +137,7 @@ arms h k = record {
 }
 
 -- what head h, of number p, does on an event in which it hears head g. The group line as such forms the core group's session, (W0, 0).
-abbrev pub playedBy : ℕ → Seat → Seat → What → Played
+unfoldable pub playedBy : ℕ → Seat → Seat → What → Played
 playedBy p h g (what.Refuse n) = doesNothing h (call (refused n)) 0
 playedBy p h g (what.Announce v m) = doesNothing h announced 0
 playedBy p h g (what.Open core least) = doesNothing h (call started) core

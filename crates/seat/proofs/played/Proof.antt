@@ -1,3 +1,4 @@
+use Rattle.seat.specs.Played.{playedBy}
 use borrow.Author.Needs.{needs}
 use Rattle.seat.proofs.played.Statement.{statement}
 use Rattle.seat.proofs.played.Tie as tie
@@ -107,46 +108,57 @@ arms-requires c κs = search needs
 
 -- src/lib.rt:356:1
 returns : tie.Need-returns
+unfolding playedBy
 returns c = rw (c .before .before .what .given .1) (c .does-nothing .ensures)
 
 -- src/lib.rt:356:1
 returns-2 : tie.Need-returns-2
+unfolding playedBy
 returns-2 c = rw (c .before .before .what2 .given .1) (c .does-nothing2 .ensures)
 
 -- src/lib.rt:356:1
 returns-3 : tie.Need-returns-3
+unfolding playedBy
 returns-3 c = rw (c .before .before .what3 .given .1) (c .does-nothing3 .ensures)
 
 -- src/lib.rt:356:1
 returns-4 : tie.Need-returns-4
+unfolding playedBy
 returns-4 c = rw (c .before .before .what4 .given .1) (c .starts .ensures)
 
 -- src/lib.rt:356:1
 returns-5 : tie.Need-returns-5
+unfolding playedBy
 returns-5 c = rw (c .before .before .what5 .given .1) (c .enters .ensures)
 
 -- src/lib.rt:356:1
 returns-6 : tie.Need-returns-6
+unfolding playedBy
 returns-6 c = rw (c .before .before .what6 .given .1) (c .hears-state .ensures)
 
 -- src/lib.rt:356:1
 returns-7 : tie.Need-returns-7
+unfolding playedBy
 returns-7 c = rw (c .before .before .what7 .given .1) (c .hears-attempt .ensures)
 
 -- src/lib.rt:356:1
 returns-8 : tie.Need-returns-8
+unfolding playedBy
 returns-8 c = rw (c .before .enum-told .given .1) (c .decides .ensures)
 
 -- src/lib.rt:356:1
 returns-9 : tie.Need-returns-9
+unfolding playedBy
 returns-9 c = rw (c .before .enum-told2 .given .1) (c .forms .ensures)
 
 -- src/lib.rt:356:1
 returns-10 : tie.Need-returns-10
+unfolding playedBy
 returns-10 c = rw (c .before .enum-told3 .given .1) (c .recovers .ensures)
 
 -- src/lib.rt:356:1
 returns-11 : tie.Need-returns-11
+unfolding playedBy
 returns-11 c = rw (c .before .before .what8 .given .1) (c .arms .ensures)
 
 pub played-spec : {M : Type 1} → statement M

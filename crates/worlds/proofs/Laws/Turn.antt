@@ -188,7 +188,7 @@ module _ (s : List ℕ) (t : List Seat) (views formed out : List ℕ) (w : World
       views-are = st .views-is ∙ ap (λ (z : Order). listed (w .views) (z .what) views) start-order
 
       table-is : t' ≡ set t (16 - w .starting) (starts (seatAt t (16 - w .starting)) (16 - w .starting) (w .core) (w .least) .seat)
-      unfolding startOrder
+      unfolding startOrder playedBy
       table-is = st .table ∙ ap (λ (z : Order). set t (z .to) (playedAs z .seat)) start-order
 
       heads-are : AsStarted r t' ≡ AsStarted w t
