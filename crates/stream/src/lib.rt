@@ -13,6 +13,8 @@ ghost use Rattle.lines.specs.Reading.{judged};
 ghost use Rattle.lines.specs.Walk.{wholeLines, begun, lastLine};
 ghost use Rattle.stream.specs.Shown.{shown, printed};
 ghost use Rattle.stream.specs.Parts.{Counts, room};
+pub use show::put_field;
+pub use show::put_heads;
 
 // What a part of the input came to: bytes printed, and bytes held of the line that it begins.
 pub struct Fed {

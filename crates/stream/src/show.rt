@@ -13,7 +13,7 @@ ghost use Rattle.stream.specs.Shown.{field, headsText, numberText, sessi
 ghost use Rattle.stream.specs.Parts.{room};
 
 // A space and a number.
-fn put_field(out: &mut [u8], at: usize, n: u64) -> usize
+pub fn put_field(out: &mut [u8], at: usize, n: u64) -> usize
     requires { ⌜ at + 21 ≤ length (now out) ⌝ }
     ensures { λ r. ⌜ (r ≤ at + 21) × (take r (now (out .exit)) ≡ take at (now (out .entry)) ++ field n) ⌝ }
 {
@@ -33,7 +33,7 @@ fn put_byte(out: &mut [u8], at: usize, b: u8) -> usize
 }
 
 // A space and the heads of a session, in four digits.
-fn put_heads(out: &mut [u8], at: usize, w: u64) -> usize
+pub fn put_heads(out: &mut [u8], at: usize, w: u64) -> usize
     requires { ⌜ at + 5 ≤ length (now out) ⌝ }
     ensures { λ r. ⌜ (r ≤ at + 5) × (take r (now (out .exit)) ≡ take at (now (out .entry)) ++ headsText w) ⌝ }
 {

@@ -1,0 +1,16 @@
+-- By the definition.
+use mathlib.Core.Path.{refl}
+use Rattle.bench.specs.Program.{atRead}
+use borrow.Author.Needs.{needs}
+use Rattle.bench.proofs.at_read.Statement.{statement}
+use Rattle.bench.proofs.at_read.Tie as tie
+
+returns : tie.Need-returns
+unfolding atRead
+returns c = refl
+
+pub at-read-spec : {M : Type 1} → statement M
+at-read-spec =
+    tie.close
+    (tie.spec
+    returns)

@@ -1,0 +1,53 @@
+-- The search goes down from the end: where it stops the byte before is a newline, or there is none.
+use mathlib.Core.List.{[]}
+use native.Mathlib.Omega.{arith}
+use Prim.Native.Nat.{_≤_}
+use Rattle.bench.proofs.Laws.{ends-there, ends-none}
+use borrow.Author.Needs.{needs}
+use Rattle.bench.proofs.last_end.Statement.{statement}
+use Rattle.bench.proofs.last_end.Tie as tie
+
+abbrev Inv-loop : tie.InvT-loop
+Inv-loop buf n i₀ i = i ≤ n
+
+abbrev μ-loop : tie.MeasureT-loop
+μ-loop buf n i₀ i = i
+
+loop-holds : tie.Need-loop-holds Inv-loop μ-loop
+loop-holds c = omega arith
+
+sub-if1 : tie.Need-sub-if1 Inv-loop μ-loop
+sub-if1 c = omega arith
+
+shared-slice-read-if1 : tie.Need-shared-slice-read-if1 Inv-loop μ-loop
+shared-slice-read-if1 c = omega arith
+
+returns : tie.Need-returns Inv-loop μ-loop
+returns c = (omega arith, ends-there (c .before .before .before .before .args .buf .now) (c .before .before .before .loop .i) (omega arith) (omega arith) (c .if1 .taken))
+
+sub-i : tie.Need-sub-i Inv-loop μ-loop
+sub-i c = omega arith
+
+loop-less : tie.Need-loop-less Inv-loop μ-loop
+loop-less c = omega arith
+
+loop-again : tie.Need-loop-again Inv-loop μ-loop
+loop-again c = omega arith
+
+returns-2 : tie.Need-returns-2 Inv-loop μ-loop
+returns-2 c = (omega arith, ends-none [])
+
+pub last-end-spec : {M : Type 1} → statement M
+last-end-spec =
+    tie.close
+    (tie.spec
+    Inv-loop
+    μ-loop
+    loop-holds
+    sub-if1
+    shared-slice-read-if1
+    returns
+    sub-i
+    loop-less
+    loop-again
+    returns-2)

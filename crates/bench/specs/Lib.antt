@@ -1,0 +1,2 @@
+-- The program's loop over its reads.
+pub mod Program

@@ -1,0 +1,2 @@
+-- The bench's events (document 02, Item 1).
+pub mod Events

@@ -1,0 +1,21 @@
+use Rattle.seat.proofs.Laws.{no-chars}
+use borrow.Author.Needs.{needs}
+use Rattle.seat.proofs.chars_of.Statement.{statement}
+use Rattle.seat.proofs.chars_of.Tie as tie
+use Rattle.seat.proofs.chars_of.Reads as reads
+use Rattle.seat.proofs.chars_of.Lts as lts
+
+-- src/lib.rt:109:25
+enum-known-answer : tie.Need-enum-known-answer
+enum-known-answer c = search needs
+
+-- src/lib.rt:105:1
+returns : tie.Need-returns
+returns c = search needs
+
+-- src/lib.rt:105:1
+returns-2 : tie.Need-returns-2
+returns-2 c = no-chars (c .before .args .answer) (c .match .keys2)
+
+pub chars-of-spec : {M : Type 1} → statement M
+chars-of-spec = tie.close (tie.spec enum-known-answer returns returns-2)

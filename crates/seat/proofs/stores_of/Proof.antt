@@ -1,0 +1,18 @@
+use Rattle.seat.specs.Seat.{storesFor}
+use Rattle.seat.proofs.stores_of.Statement.{statement}
+use Rattle.seat.proofs.stores_of.Tie as tie
+use Rattle.seat.proofs.stores_of.Reads as reads
+use Rattle.seat.proofs.stores_of.Lts as lts
+
+-- src/lib.rt:88:1
+returns : tie.Need-returns
+unfolding storesFor
+returns c = rw (c .if1 .taken)
+
+-- src/lib.rt:88:1
+returns-2 : tie.Need-returns-2
+unfolding storesFor
+returns-2 c = rw (c .if1 .left)
+
+pub stores-of-spec : {M : Type 1} → statement M
+stores-of-spec = tie.close (tie.spec returns returns-2)

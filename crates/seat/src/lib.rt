@@ -1,0 +1,401 @@
+// A head of the bench: its record, its session, the lines it sent last and a cut that waits; and what it does on an event, by value.
+use group::Answer;
+use group::Group;
+use head::session::Session;
+use mending::recover;
+use record::layout::primary;
+use start::start;
+ghost use mathlib.Core.Path.{_≡_};
+ghost use Prim.Native.Nat.{_<_, _≤_};
+ghost use lib.ListN.{take};
+ghost use Rattle.group.specs.Answers.{said};
+ghost use Rattle.head.specs.Calls.{ended, hearStateSpec, hearAttemptSpec};
+ghost use Rattle.seat.specs.Seat.{noLine, emptySeat, storesFor, chars, pushed, stateSent, attemptSent, sentOnEntry, sentOnDecision, isLine, keptAt};
+ghost use Rattle.seat.specs.Played.{did, told, newly, afterCall, listened, doesNothing, starts, enters, hearsState, hearsAttempt, decides, forms, recovers, arms, playedBy};
+
+// A line that was sent, of at most 419 characters; of none where no line is kept.
+pub struct Kept {
+    pub len: usize,
+    pub bytes: [u8; 419],
+}
+
+// "The sixteen heads stand in one lent table, each with its record, its session and its last four sent lines." A cut that waits is armed, with its stores.
+pub struct Seat {
+    pub words: [u64; Group::WORDS],
+    pub session: Session,
+    pub sent: [Kept; 4],
+    pub armed: bool,
+    pub stores: u64,
+}
+
+// What a head is to do. The first three are for the bench alone, and leave the head as it is.
+pub enum What {
+    Refuse { number: u8 },
+    Announce { number: u32, heads: u16 },
+    Open { core: u16, least: u8 },
+    Start { core: u16, least: u8 },
+    Enter { view: u32, heads: u16 },
+    HearState { which: u8 },
+    HearAttempt { which: u8 },
+    Decide,
+    Form,
+    Recover,
+    Arm { stores: u16 },
+}
+
+// What is printed for an event.
+pub enum Reply {
+    Refused(u8),
+    Announced,
+    Armed,
+    Head(Answer),
+}
+
+// What a head did: what is printed, and the session that it formed, 0 for none.
+pub struct Deed {
+    pub reply: Reply,
+    pub formed: u64,
+}
+
+pub struct Next {
+    pub seat: Seat,
+    pub deed: Deed,
+}
+
+fn no_line() -> Kept
+    ensures { λ r. ⌜ r ≡ noLine ⌝ }
+{
+    Kept {
+        len: 0,
+        bytes: [0; 419],
+    }
+}
+
+// A head before its group line.
+pub fn empty_seat() -> Seat
+    ensures { λ r. ⌜ r ≡ emptySeat ⌝ }
+{
+    let session = Session::none();
+    let line = no_line();
+    Seat {
+        words: [0; Group::WORDS],
+        session: session,
+        sent: [line; 4],
+        armed: false,
+        stores: 0,
+    }
+}
+
+// How many stores the next call of the four may make.
+fn stores_of(armed: bool, stores: u64) -> u64
+    ensures { λ r. ⌜ r ≡ storesFor armed stores ⌝ }
+{
+    if armed { stores } else { u64::MAX }
+}
+
+// A line sent goes in front, and the oldest of the four goes.
+fn push(k: Kept, sent: [Kept; 4]) -> [Kept; 4]
+    ensures { λ r. ⌜ r ≡ pushed k sent ⌝ }
+{
+    let a = sent[0];
+    let b = sent[1];
+    let c = sent[2];
+    [k, a, b, c]
+}
+
+// How many characters a call wrote.
+fn chars_of(answer: Answer) -> usize
+    ensures { λ r. ⌜ r ≡ chars (said answer) ⌝ }
+{
+    match answer {
+        Answer::Written(n) => n,
+        _ => 0,
+    }
+}
+
+fn state_line(s: Session, words: [u64; Group::WORDS]) -> Kept
+    ensures { λ r. ⌜ r ≡ stateSent s words ⌝ }
+{
+    let mut bytes = [0u8; 419];
+    let next = s.write_state(&words, &mut bytes);
+    let answer = next.answer;
+    let len = chars_of(answer);
+    Kept { len, bytes }
+}
+
+fn attempt_line(s: Session, words: [u64; Group::WORDS]) -> Kept
+    ensures { λ r. ⌜ r ≡ attemptSent s words ⌝ }
+{
+    let mut bytes = [0u8; 419];
+    let next = s.write_attempt(&words, &mut bytes);
+    let answer = next.answer;
+    let len = chars_of(answer);
+    Kept { len, bytes }
+}
+
+// Entering sends the state line.
+fn sent_on_entry(
+    answer: Answer,
+    s: Session,
+    words: [u64; Group::WORDS],
+    sent: [Kept; 4],
+) -> [Kept; 4]
+    ensures { λ r. ⌜ r ≡ sentOnEntry (said answer) s words sent ⌝ }
+{
+    match answer {
+        Answer::Entered => push(state_line(s, words), sent),
+        _ => sent,
+    }
+}
+
+// Attempting sends the attempt line.
+fn sent_on_decision(
+    answer: Answer,
+    s: Session,
+    words: [u64; Group::WORDS],
+    sent: [Kept; 4],
+) -> [Kept; 4]
+    ensures { λ r. ⌜ r ≡ sentOnDecision (said answer) s words sent ⌝ }
+{
+    match answer {
+        Answer::Attempted => push(attempt_line(s, words), sent),
+        _ => sent,
+    }
+}
+
+// The head after a call of the four that store, and its answer: a cut that waited is used up.
+fn after_call(
+    words: [u64; Group::WORDS],
+    s: Session,
+    sent: [Kept; 4],
+    answer: Answer,
+    formed: u64,
+) -> Next
+    ensures { λ r. ⌜ did r ≡ afterCall words s sent (said answer) formed ⌝ }
+{
+    let reply = Reply::Head(answer);
+    Next {
+        seat: Seat {
+            words: words,
+            session: s,
+            sent: sent,
+            armed: false,
+            stores: 0,
+        },
+        deed: Deed { reply, formed },
+    }
+}
+
+fn does_nothing(h: Seat, reply: Reply, formed: u64) -> Next
+    ensures { λ r. ⌜ did r ≡ doesNothing h (told reply) formed ⌝ }
+{
+    Next {
+        seat: h,
+        deed: Deed { reply, formed },
+    }
+}
+
+fn starts(h: Seat, p: usize, core: u16, least: u8) -> Next
+    requires { ⌜ p < 16 ⌝ }
+    ensures { λ r. ⌜ did r ≡ starts h p core least ⌝ }
+{
+    let mut words = h.words;
+    let answer = start(&mut words, p as u8, core, least);
+    let sent = h.sent;
+    let session = Session::none();
+    let reply = Reply::Head(answer);
+    Next {
+        seat: Seat {
+            words: words,
+            session: session,
+            sent: sent,
+            armed: h.armed,
+            stores: h.stores,
+        },
+        deed: Deed { reply, formed: 0 },
+    }
+}
+
+fn enters(h: Seat, view: u32, heads: u16) -> Next
+    ensures { λ r. ⌜ did r ≡ enters h view heads ⌝ }
+{
+    let mut words = h.words;
+    let session = h.session;
+    let stores = stores_of(h.armed, h.stores);
+    let next = session.enter(&mut words, view, heads, stores);
+    let answer = next.answer;
+    let session = next.session;
+    let sent = h.sent;
+    let sent = sent_on_entry(answer, session, words, sent);
+    after_call(words, session, sent, answer, 0)
+}
+
+fn decides(h: Seat) -> Next
+    ensures { λ r. ⌜ did r ≡ decides h ⌝ }
+{
+    let mut words = h.words;
+    let session = h.session;
+    let stores = stores_of(h.armed, h.stores);
+    let next = session.decide(&mut words, stores);
+    let answer = next.answer;
+    let session = next.session;
+    let sent = h.sent;
+    let sent = sent_on_decision(answer, session, words, sent);
+    after_call(words, session, sent, answer, 0)
+}
+
+// The session in word 3 where a call changed that word.
+fn newly(before: u64, after: u64) -> u64
+    ensures { λ r. ⌜ r ≡ newly before after ⌝ }
+{
+    if after == before { 0 } else { after }
+}
+
+fn forms(h: Seat) -> Next
+    ensures { λ r. ⌜ did r ≡ forms h ⌝ }
+{
+    let mut words = h.words;
+    let session = h.session;
+    let stores = stores_of(h.armed, h.stores);
+    let before = primary(&words);
+    let next = session.form(&mut words, stores);
+    let formed = newly(before, primary(&words));
+    let answer = next.answer;
+    let session = next.session;
+    let sent = h.sent;
+    after_call(words, session, sent, answer, formed)
+}
+
+fn recovers(h: Seat) -> Next
+    ensures { λ r. ⌜ did r ≡ recovers h ⌝ }
+{
+    let mut words = h.words;
+    let stores = stores_of(h.armed, h.stores);
+    let answer = recover(&mut words, stores);
+    let sent = h.sent;
+    after_call(words, Session::none(), sent, answer, 0)
+}
+
+fn arms(h: Seat, stores: u16) -> Next
+    ensures { λ r. ⌜ did r ≡ arms h stores ⌝ }
+{
+    let mut seat = h;
+    seat.armed = true;
+    seat.stores = stores as u64;
+    let reply = Reply::Armed;
+    Next {
+        seat: seat,
+        deed: Deed { reply, formed: 0 },
+    }
+}
+
+// The head after a hearing call, and its answer.
+fn listened(h: Seat, s: Session, answer: Answer) -> Next
+    ensures { λ r. ⌜ did r ≡ listened h s (said answer) ⌝ }
+{
+    let mut seat = h;
+    seat.session = s;
+    let reply = Reply::Head(answer);
+    Next {
+        seat: seat,
+        deed: Deed { reply, formed: 0 },
+    }
+}
+
+// Whether a line of so many characters is kept.
+fn is_line(len: usize) -> bool
+    ensures { λ r. ⌜ r ≡ isLine len ⌝ }
+{
+    (0 < len) & (len <= 419)
+}
+
+// The line that a delivery names; of no characters where there is none.
+fn kept_at(g: Seat, which: u8) -> Kept
+    ensures { λ r. ⌜ r ≡ keptAt (g .sent) which ⌝ }
+{
+    if 3 < which {
+        return no_line();
+    }
+    let sent = g.sent;
+    sent[which as usize]
+}
+
+// The state line in the first characters is heard.
+fn heard_state(
+    s: Session,
+    words: [u64; Group::WORDS],
+    bytes: [u8; 419],
+    len: usize,
+) -> head::session::Next
+    requires { ⌜ len ≤ 419 ⌝ }
+    ensures { λ r. ⌜ ended words r ≡ hearStateSpec s words (take len bytes) ⌝ }
+{
+    s.hear_state(&words, &bytes[..len])
+}
+
+fn hears_state(h: Seat, g: Seat, which: u8) -> Next
+    ensures { λ r. ⌜ did r ≡ hearsState h g which ⌝ }
+{
+    let kept = kept_at(g, which);
+    let len = kept.len;
+    if !is_line(len) {
+        return does_nothing(h, Reply::Refused(14), 0);
+    }
+    let bytes = kept.bytes;
+    let words = h.words;
+    let session = h.session;
+    let next = heard_state(session, words, bytes, len);
+    let answer = next.answer;
+    let session = next.session;
+    listened(h, session, answer)
+}
+
+// The attempt line in the first characters is heard.
+fn heard_attempt(
+    s: Session,
+    words: [u64; Group::WORDS],
+    bytes: [u8; 419],
+    len: usize,
+) -> head::session::Next
+    requires { ⌜ len ≤ 419 ⌝ }
+    ensures { λ r. ⌜ ended words r ≡ hearAttemptSpec s words (take len bytes) ⌝ }
+{
+    s.hear_attempt(&words, &bytes[..len])
+}
+
+fn hears_attempt(h: Seat, g: Seat, which: u8) -> Next
+    ensures { λ r. ⌜ did r ≡ hearsAttempt h g which ⌝ }
+{
+    let kept = kept_at(g, which);
+    let len = kept.len;
+    if !is_line(len) {
+        return does_nothing(h, Reply::Refused(14), 0);
+    }
+    let bytes = kept.bytes;
+    let words = h.words;
+    let session = h.session;
+    let next = heard_attempt(session, words, bytes, len);
+    let answer = next.answer;
+    let session = next.session;
+    listened(h, session, answer)
+}
+
+// What head h, of number p, does on an event in which it hears head g.
+pub fn played(p: usize, h: Seat, g: Seat, what: What) -> Next
+    requires { ⌜ p < 16 ⌝ }
+    ensures { λ r. ⌜ did r ≡ playedBy p h g what ⌝ }
+{
+    match what {
+        What::Refuse { number } => does_nothing(h, Reply::Refused(number), 0),
+        What::Announce { number, heads } => does_nothing(h, Reply::Announced, 0),
+        What::Open { core, least } => does_nothing(h, Reply::Head(Answer::Started), core as u64),
+        What::Start { core, least } => starts(h, p, core, least),
+        What::Enter { view, heads } => enters(h, view, heads),
+        What::HearState { which } => hears_state(h, g, which),
+        What::HearAttempt { which } => hears_attempt(h, g, which),
+        What::Decide => decides(h),
+        What::Form => forms(h),
+        What::Recover => recovers(h),
+        What::Arm { stores } => arms(h, stores),
+    }
+}

@@ -1,0 +1,4 @@
+pub mod Again
+pub mod Elem
+pub mod Local
+pub mod More

@@ -1,0 +1,2 @@
+-- What one head's turn does to the table.
+pub mod Acts
