@@ -1,0 +1,6 @@
+pub mod Views
+pub mod Listed
+pub mod Follows
+pub mod Acts
+pub mod Starts
+pub mod Asked
