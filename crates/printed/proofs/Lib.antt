@@ -4,3 +4,6 @@ pub mod Follows
 pub mod Acts
 pub mod Starts
 pub mod Asked
+pub mod Lines
+pub mod Theorem
+mod Examples
