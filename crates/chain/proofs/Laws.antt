@@ -13,3 +13,4 @@ pub mod World
 pub mod Quorum
 pub mod Safety
 pub mod Calls
+pub mod Counted

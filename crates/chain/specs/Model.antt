@@ -69,6 +69,7 @@ pub data Event : Type 0 where
 -- "Fresh: core heads have last primary (W0, 0), and last formed the same for heads of W0; all else is 0. Heads outside W0 have none."
 pub record Init (G : Group) (h : ℕ) (l : Local) : Type 1 where
   pub view : l .view ≡ 0
+  pub num : l .num ≡ 0
   pub tried : l .tried ≡ 0
   pub prim : (l .prim ≡ none) ⊎ ((l .prim ≡ real (coreSess G)) × G .In h (G .core))
   pub formed : (x : ℕ) → (l .formed x ≡ none) ⊎ ((l .formed x ≡ real (coreSess G)) × (l .prim ≡ real (coreSess G)) × G .In x (G .core))

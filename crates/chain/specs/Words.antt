@@ -71,6 +71,7 @@ module _ (G : Group) where
   -- "Fresh: core heads have last primary (W0, 0), and last formed the same for heads of W0; all else is 0. Heads outside W0 have none."
   pub record Fresh (p : ℕ) (r : Rec) : Type 0 where
     pub view : r .view ≡ 0
+    pub num : r .num ≡ 0
     pub prim : (r .prim ≡ 0) ⊎ (Is (r .prim) (G .core) 0 × G .In p (G .core))
     pub formed : (x : ℕ) → (r .formed x ≡ 0) ⊎ (Is (r .formed x) (G .core) 0 × Is (r .prim) (G .core) 0 × G .In x (G .core))
     pub place : (i : ℕ) → i < 16 → r .place i ≡ 0

@@ -94,12 +94,12 @@ free (suc i) = refl
 
 fresh : (x : ℕ) → Fresh solo x (w₀ .rec x)
 unfolding groupOf
-fresh zero = record { view = refl; prim = inr (core-word, zero-in); formed = formed; place = λ i h. free i }
+fresh zero = record { view = refl; num = refl; prim = inr (core-word, zero-in); formed = formed; place = λ i h. free i }
   where
     formed : (x : ℕ) → (for-0 1 x ≡ 0) ⊎ (Is (for-0 1 x) 1 0 × Is 1 1 0 × solo .In x 1)
     formed zero = inr (core-word, core-word, zero-in)
     formed (suc x) = inl refl
-fresh (suc y) = record { view = refl; prim = inl refl; formed = λ x. inl (free x); place = λ i h. free i }
+fresh (suc y) = record { view = refl; num = refl; prim = inl refl; formed = λ x. inl (free x); place = λ i h. free i }
 
 k₀ : Reached solo w₀
 unfolding groupOf

@@ -82,7 +82,7 @@ fresh x = loc 0 0 0 (last x (real (coreSess pair))) nowhere unmarked
 
 pub fresh-init : (h : ℕ) → Init pair h (fresh h)
 unfolding groupOf
-fresh-init h = record { view = refl; tried = refl; prim = prim h; formed = formed h; places = λ S p. p; marks = λ S x p. p }
+fresh-init h = record { view = refl; num = refl; tried = refl; prim = prim h; formed = formed h; places = λ S p. p; marks = λ S x p. p }
   where
     core : Maybe
     core = real (sess-of 3 0)

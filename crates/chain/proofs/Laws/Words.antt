@@ -106,6 +106,7 @@ module _ (G : Group) where
   pub fresh-init : {p : ℕ} {r : Rec} → Fresh G p r → Init G p (abs r 0)
   fresh-init k = record {
     view = k .view;
+    num = k .num;
     tried = refl;
     prim = ⊎-elim (λ e. inl (ap maybe e)) (λ (e, i). inr (is-real e, i)) (k .prim);
     formed = λ x. ⊎-elim (λ e. inl (ap maybe e)) (λ (e, p, i). inr (is-real e, is-real p, i)) (k .formed x);

@@ -40,7 +40,7 @@ FormsNothing (form S) = ⊥
 
 module _ (G : Group) where
   -- a history's formed sessions are those before its last change, and what that change formed
-  formed-back : {H : Hist} {p : ℕ} {e : Event} {l : Local} (F : Sess) → Formed G (more H p e l) F → Formed G H F ⊎ (e ≡ form F)
+  pub formed-back : {H : Hist} {p : ℕ} {e : Event} {l : Local} (F : Sess) → Formed G (more H p e l) F → Formed G H F ⊎ (e ≡ form F)
   formed-back {H} {p} {e} {l} F w = go (more H p e l) F w refl
     where
       prev : Hist → Hist

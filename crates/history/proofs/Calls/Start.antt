@@ -33,7 +33,7 @@ use Rattle.history.proofs.Invariant.{Reading, none-gone, none-stage}
 use Rattle.history.proofs.Calls.Ends.{Kept}
 
 module _ (S : Setting) (G : Group) (R : Reading S G) where
-  core-some : S .core ≡ 0 → ⊥
+  pub core-some : S .core ≡ 0 → ⊥
   unfolding isGroup
   core-some z =
       let l : 0 < size (S .core) = not-empty (S .core) (and-left (not (empty (S .core))) (not (eqb (S .least) 0)) (and-left (not (empty (S .core)) && not (eqb (S .least) 0)) (leb (S .least) (size (S .core))) (S .grouped))) in
@@ -78,6 +78,7 @@ module _ (S : Setting) (G : Group) (R : Reading S G) where
     fresh-record : Fresh G h (recOf fresh)
     fresh-record = record {
       view = fresh-reads (S .core) (S .least) h .entered-is;
+      num = fresh-reads (S .core) (S .least) h .number-is;
       prim = ⊎-elim (λ e. inr (core-is _ (primary-in e), in-core h e)) (λ e. inl (primary-out e)) (passes-or-fails (has (S .core) h));
       formed = λ x.
           ⊎-elim (λ l. formed-by x l (has (S .core) h) (has (S .core) x) refl refl) (λ g. inl (guard-out (formedFor fresh) x g)) (lt-or-ge x 16);

@@ -29,7 +29,7 @@ use Rattle.head.specs.declared.session.Session.{Session}
 use Rattle.head.specs.Refusals.{writeStateRefusal, writeAttemptRefusal}
 use Rattle.head.specs.Calls.{Wrote as Output, writes, writeStateSpec, writeAttemptSpec}
 use Rattle.head.proofs.Laws.Refusals.{may-write-state, may-write-attempt}
-use Rattle.head.proofs.Laws.Fits.{usable-stage}
+use Rattle.head.proofs.Laws.Fits.{Fitting, usable-stage}
 use Rattle.chain.specs.Model.{Group}
 use Rattle.chain.specs.Words.{Rec, Said as Saying, Self}
 use Rattle.chain.specs.World.{Phase, Phase.undecided as undecided, Phase.trying as trying, Phase.primary as prime, live, Reached, does, turn, idles, writes-state, writes-attempt}
@@ -52,19 +52,16 @@ kindIn (StateLine v x) = 1
 kindIn (AttemptLine v x) = 2
 kindIn (Broken k) = 0
 
-head-kept : (S : Setting) (r : List ℕ) (s : Session) → Live S r s → HeadKept (s .view) (own r)
-head-kept S r s v = record {
-  some = omega (arith, v .fitting .viewed);
-  view = omega (arith, v .fitting .view, whole-parts r (v .good) .view);
-  sender = own-small r;
-}
+module _ (r : List ℕ) (s : Session) (good : whole r ≡ true) (f : Fitting s r) where
+  head-kept : HeadKept (s .view) (own r)
+  head-kept = record { some = omega (arith, f .viewed); view = omega (arith, f .view, whole-parts r good .view); sender = own-small r }
 
-state-reads : (S : Setting) (r : List ℕ) (s : Session) → Live S r s → readWhole (stateLine (s .view) (own r) (tells r)) ≡ record { line = StateLine (s .view) (own r); state = tells r }
-state-reads S r s v =
-    whole-back (record { line = StateLine (s .view) (own r); state = tells r }) (record { head = head-kept S r s v; tidy = tells-tidy r (v .good); rules = tells-keeps r (v .good) })
+  pub state-reads : readWhole (stateLine (s .view) (own r) (tells r)) ≡ record { line = StateLine (s .view) (own r); state = tells r }
+  state-reads =
+      whole-back (record { line = StateLine (s .view) (own r); state = tells r }) (record { head = head-kept; tidy = tells-tidy r good; rules = tells-keeps r good })
 
-attempt-reads : (S : Setting) (r : List ℕ) (s : Session) → Live S r s → readWhole (attemptLine (s .view) (own r)) ≡ record { line = AttemptLine (s .view) (own r); state = noState }
-attempt-reads S r s v = whole-back (record { line = AttemptLine (s .view) (own r); state = noState }) (head-kept S r s v, refl)
+  pub attempt-reads : readWhole (attemptLine (s .view) (own r)) ≡ record { line = AttemptLine (s .view) (own r); state = noState }
+  attempt-reads = whole-back (record { line = AttemptLine (s .view) (own r); state = noState }) (head-kept, refl)
 
 -- the state line carries the record's values
 pub tells-self : (r : List ℕ) → whole r ≡ true → Self (recOf r) (saidOf (tells r))
@@ -79,7 +76,7 @@ tells-self r e = record {
 
 -- ---- the output's first characters are the line
 
-take-front : (a b : List ℕ) → take (length a) (a ++ b) ≡ a
+pub take-front : (a b : List ℕ) → take (length a) (a ++ b) ≡ a
 take-front [] b = refl
 take-front (x ∷ a) b = ap (λ (l : List ℕ). x ∷ l) (take-front a b)
 
@@ -137,7 +134,7 @@ module _ (S : Setting) (G : Group) (p : ℕ) (W : World) (r : List ℕ) (s : Ses
         new : _≡_ {A = Sent} (record { by = x; bytes = w .bytes }) told → (u ≡ headRec S p (W .head p) .view) × (x ≡ p) × Self (headRec S p (W .head p)) m
         new e =
             let b : w .bytes ≡ text = ap (λ (y : Sent). y .bytes) e in
-            let q : readWhole (w .bytes) ≡ record { line = StateLine (s .view) (own r); state = tells r } = ap readWhole b ∙ state-reads S r s v in
+            let q : readWhole (w .bytes) ≡ record { line = StateLine (s .view) (own r); state = tells r } = ap readWhole b ∙ state-reads r s (v .good) (v .fitting) in
             let l : StateLine u x ≡ StateLine (s .view) (own r) = sym (w .reads) ∙ ap (λ (y : Read). y .line) q in (
               ap viewIn l ∙ v .fitting .view ∙ sym (ap (λ (z : Rec). z .view) rec-is),
               ap (λ (y : Sent). y .by) e,
@@ -149,7 +146,7 @@ module _ (S : Setting) (G : Group) (p : ℕ) (W : World) (r : List ℕ) (s : Ses
       where
         new : _≡_ {A = Sent} (record { by = x; bytes = w .bytes }) told → ⊥
         new e =
-            let q : readWhole (w .bytes) ≡ record { line = StateLine (s .view) (own r); state = tells r } = ap readWhole (ap (λ (y : Sent). y .bytes) e) ∙ state-reads S r s v in
+            let q : readWhole (w .bytes) ≡ record { line = StateLine (s .view) (own r); state = tells r } = ap readWhole (ap (λ (y : Sent). y .bytes) e) ∙ state-reads r s (v .good) (v .fitting) in
             let l : _≡_ {A = ℕ} 2 1 = ap kindIn (sym (w .reads) ∙ ap (λ (y : Read). y .line) q) in
             omega arith
 
@@ -172,7 +169,7 @@ module _ (S : Setting) (G : Group) (p : ℕ) (W : World) (r : List ℕ) (s : Ses
       where
         new : _≡_ {A = Sent} (record { by = x; bytes = w .bytes }) claimed → ⊥
         new e =
-            let q : readWhole (w .bytes) ≡ record { line = AttemptLine (s .view) (own r); state = noState } = ap readWhole (ap (λ (y : Sent). y .bytes) e) ∙ attempt-reads S r s v in
+            let q : readWhole (w .bytes) ≡ record { line = AttemptLine (s .view) (own r); state = noState } = ap readWhole (ap (λ (y : Sent). y .bytes) e) ∙ attempt-reads r s (v .good) (v .fitting) in
             let l : _≡_ {A = ℕ} 1 2 = ap kindIn (sym (w .reads) ∙ ap (λ (y : Read). y .line) q) in
             omega arith
 
@@ -181,7 +178,7 @@ module _ (S : Setting) (G : Group) (p : ℕ) (W : World) (r : List ℕ) (s : Ses
       where
         new : _≡_ {A = Sent} (record { by = x; bytes = w .bytes }) claimed → (u ≡ headRec S p (W .head p) .view) × (x ≡ p)
         new e =
-            let q : readWhole (w .bytes) ≡ record { line = AttemptLine (s .view) (own r); state = noState } = ap readWhole (ap (λ (y : Sent). y .bytes) e) ∙ attempt-reads S r s v in
+            let q : readWhole (w .bytes) ≡ record { line = AttemptLine (s .view) (own r); state = noState } = ap readWhole (ap (λ (y : Sent). y .bytes) e) ∙ attempt-reads r s (v .good) (v .fitting) in
             let l : AttemptLine u x ≡ AttemptLine (s .view) (own r) = sym (w .reads) ∙ ap (λ (y : Read). y .line) q in
             (ap viewIn l ∙ v .fitting .view ∙ sym (ap (λ (z : Rec). z .view) rec-is), ap (λ (y : Sent). y .by) e)
 
