@@ -1,5 +1,5 @@
--- Document 01, "Examples of both sides": "Cases 1 to 12 are one table of the definitions and one theorem over it". Cases 1 to 10 are quorum tests, the table of crate
--- group; 11 and 12 are calls of heads from fresh records. W0 is 001f; Q is 1 in 11 and 12.
+-- Document 01's "Examples of both sides", as its last section asks: "Cases 1 to 12 are one table of the definitions and one theorem over it". Cases 1 to 10 are quorum
+-- tests, the table of crate group; 11 and 12 are calls of heads from fresh records. W0 is 001f; Q is 1 in 11 and 12.
 use mathlib.Core.Path.{_≡_}
 use mathlib.Core.List.{List, [], _∷_, _++_, map}
 use Prim.Native.Nat.{ℕ, suc, _+_}

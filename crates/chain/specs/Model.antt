@@ -87,7 +87,7 @@ pub record Still (l l′ : Local) : Type 1 where
 -- ("Write state line, of the record's values, from entry until decided"). `Att x v`: x has attempted in view v, as its attempt lines say.
 -- `early`, wherever it stands: h has not attempted in its view yet (refused is "decide or write state after deciding", and d comes last).
 module _ (G : Group) (Snap : ℕ → ℕ → Local → Type 1) (Att : ℕ → ℕ → Type 1) (h : ℕ) (l l′ : Local) where
-  -- "a. mark q in place S if q is in S and M and q's last formed for p has a number below S's"
+  -- "a. mark q in place S if q is in S and M and q's last formed for p has a number below S's". That q is in S is not asked.
   pub record MarkOk (S : Sess) (q : ℕ) : Type 1 where
     pub listed : l .places S
     pub early : l .tried < l .view
