@@ -32,7 +32,7 @@ use Rattle.head.specs.Session.{noSession, opened, atStage}
 use Rattle.head.specs.Fits.{fits, usable}
 use Rattle.head.specs.Refusals.{enterRefusal, hearStateRefusal, hearAttemptRefusal, decideRefusal, formRefusal, writeStateRefusal, writeAttemptRefusal}
 use Rattle.head.specs.Calls.{Ended, under, stores, entryStep, decidedStage, refuses, writes, enterSpec, hearStateSpec, hearAttemptSpec, decideSpec, formSpec, writeStateSpec, writeAttemptSpec, enterChanges, decidesChanges, formsChanges}
-use Rattle.head.specs.Statements as one
+use Rattle.calls.specs.Statements as one
 use Rattle.calls.proofs.Laws.Every.{no-empty-change}
 use Rattle.head.proofs.Laws.Refusals.{may-enter, may-decide, may-form}
 use Rattle.head.proofs.Laws.Fits.{usable-whole, make-usable, none-fits, make-fits}
