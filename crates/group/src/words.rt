@@ -1,6 +1,5 @@
 // Session words: heads in bits 0 to 15, the number above; 0 for none.
 ghost use mathlib.Core.Path.{_≡_};
-ghost use mathlib.Core.Bool.{cond};
 ghost use Prim.Native.Nat.{_<_, max};
 ghost use Rattle.group.specs.Heads.{has, within};
 ghost use Rattle.group.specs.Words.{heads, num, session, rank, primaryOk, formedOk};
@@ -76,23 +75,12 @@ pub fn primary_ok(own: usize, p: u64) -> bool
     (p == 0) | has_head(p, own)
 }
 
-fn first_or_none(c: bool, p: u64) -> u64
-    ensures { λ r. ⌜ r ≡ cond c p 0 ⌝ }
-{
-    if c {
-        return p;
-    }
-    0
-}
-
-// Last formed w for head q, of head own with last primary p. Nearly always it is last primary for its heads and none for the others, so that is tested first.
+// Last formed w for head q, of head own with last primary p. No branch: rule 5 asks it of sixteen words at once.
 pub fn formed_ok(own: usize, p: u64, q: usize, w: u64) -> bool
     requires { ⌜ (own < 16) × (q < 16) ⌝ }
     ensures { λ r. ⌜ r ≡ formedOk own p q w ⌝ }
 {
     let among = has_head(p, q);
-    if w == first_or_none(among, p) {
-        return true;
-    }
-    !among & has_head(w, own) & has_head(w, q) & (rank_of(w) < rank_of(p))
+    (among & (w == p))
+        | (!among & ((w == 0) | (has_head(w, own) & has_head(w, q) & (rank_of(w) < rank_of(p)))))
 }

@@ -23,9 +23,11 @@ use record::layout::place_at;
 use record::layout::primary;
 use record::layout::settings;
 ghost use mathlib.Core.Path.{_≡_};
+ghost use mathlib.Core.Bool.{cond};
 ghost use Prim.Native.Nat.{_<_};
 ghost use lib.ListN.{length};
 ghost use Rattle.loops.specs.Below.{allBelow};
+ghost use Rattle.group.specs.Heads.{has};
 ghost use Rattle.group.specs.Words.{sessionWord};
 ghost use Rattle.group.specs.Quorum.{isGroup};
 ghost use Rattle.record.specs.Whole.{groupWhole, limitsWhole, primaryWhole, formedWhole, usedOk, placeWhole, apartWhole, topWhole, marksOk, marksWhole, whole};
@@ -68,12 +70,27 @@ fn primary_whole(rec: &[u64]) -> bool
     session_word(p) & primary_ok(own(rec), p)
 }
 
+// What last formed for q nearly always is: last primary for its heads, none for the others.
+fn usual_formed(p: u64, q: usize) -> u64
+    requires { ⌜ q < 16 ⌝ }
+    ensures { λ r. ⌜ r ≡ cond (has p q) p 0 ⌝ }
+{
+    if has_head(p, q) {
+        return p;
+    }
+    0
+}
+
 fn formed_whole(rec: &[u64], q: usize) -> bool
     requires { ⌜ (length (now rec) ≡ 52) × (q < 16) ⌝ }
     ensures { λ r. ⌜ r ≡ formedWhole (now (rec .entry)) q ⌝ }
 {
     let w = formed_for(rec, q);
-    session_word(w) & formed_ok(own(rec), primary(rec), q, w)
+    let p = primary(rec);
+    if w == usual_formed(p, q) {
+        return session_word(w);
+    }
+    session_word(w) & formed_ok(own(rec), p, q, w)
 }
 
 // A used place w, for own head, the group, last primary p and the session number.

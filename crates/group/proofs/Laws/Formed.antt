@@ -6,7 +6,7 @@ use Prim.Native.Nat.{ℕ, _<_, _≤_}
 use native.Mathlib.Nat.{lt-irrefl}
 use native.Mathlib.Omega.{arith}
 use lib.Dec.{eqb, ltb}
-use borrow.Author.Tests.{eq-eqb, ne-eqb, eqb-true, eqb-false, ltb-true, lt-ltb}
+use borrow.Author.Tests.{eq-eqb, eqb-true, eqb-false, ltb-true, lt-ltb}
 use Rattle.loops.proofs.Laws.Truth.{and-left, and-right, and-both, or-cases, or-left, or-right, not-true, passes-or-fails}
 use Rattle.group.specs.Heads.{has}
 use Rattle.group.specs.Words.{num, rank, formedOk}
@@ -48,16 +48,6 @@ formed-usual own p q w e =
     ⊎-elim
     (λ t. formed-of own p q w (member t (rw t at e)))
     (λ f. formed-of own p q w (none f (rw f at e)))
-    (passes-or-fails (has p q))
-
--- anything else has to be a session of the last case
-pub formed-other : (own p q w : ℕ) → (w ≡ cond (has p q) p 0 → ⊥)
-    → formedOk own p q w ≡ (not (has p q) && has w own && has w q && ltb (rank w) (rank p))
-unfolding formedOk
-formed-other own p q w n =
-    ⊎-elim
-    (λ t. simp (t, ne-eqb w p (rw t at n)))
-    (λ f. simp (f, ne-eqb w 0 (rw f at n)))
     (passes-or-fails (has p q))
 
 -- a lower rank has a number that is no higher
