@@ -1,14 +1,15 @@
 // Reads events on standard input and prints an answer for each, then the formed sessions. The work on bytes is in `worlds` and `table`.
 use libc::STDIN_FILENO;
 use libc::STDOUT_FILENO;
+use stream::keep;
 use table::feed;
 use table::new_table;
 use worlds::World;
 use worlds::close;
 ghost use mathlib.Core.Path.{_≡_};
 ghost use mathlib.Core.List.{[]};
-ghost use Prim.Native.Nat.{_+_, _*_, _≤_, _<_};
-ghost use lib.ListN.{length, take, drop};
+ghost use Prim.Native.Nat.{_+_, _≤_, _<_};
+ghost use lib.ListN.{length, take};
 ghost use Rattle.lines.specs.Walk.{begun};
 ghost use Rattle.bench.specs.Program.{firstWorld, atRead, Between, Filled, Later};
 
@@ -54,18 +55,6 @@ fn first_world() -> World
         least: 0,
         end: 0,
         turns: u64::MAX,
-    }
-}
-
-// Moves the n bytes at from to the start.
-fn keep(buf: &mut [u8], from: usize, n: usize)
-    requires { ⌜ from + n ≤ length (now buf) ⌝ }
-    ensures { λ _. ⌜ take n (now (buf .exit)) ≡ take n (drop from (now (buf .entry))) ⌝ }
-{
-    let mut i = 0;
-    while i < n {
-        buf[i] = buf[from + i];
-        i += 1;
     }
 }
 

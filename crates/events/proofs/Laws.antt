@@ -14,14 +14,14 @@ use Rattle.loops.proofs.Laws.Truth.{cond-elim}
 use Rattle.group.proofs.answers.Answer.{the-type}
 use Rattle.group.specs.declared.answers.Answer.{Answer}
 use Rattle.group.specs.declared.answers.Answer.the-variants.{Started}
-use Rattle.group.specs.Answers.{Said, said, started, refused}
+use Rattle.group.specs.Answers.{said, started, refused}
 use Rattle.group.proofs.Laws.Answers.{said-one}
 use Rattle.record.specs.Outcome.{Outcome, outcome}
 use Rattle.record.specs.Start.{startSpec, canStart, takenLeast}
 use Rattle.lines.specs.Hex.{isDigit, unhex}
 use Rattle.events.specs.declared.Event.{Event}
 use Rattle.events.specs.declared.Event.the-variants.{NoEvent, GiveState, GiveAttempt}
-use Rattle.events.specs.Events.{named, byteAt, starts, groupEvent, ofKind, eventOf}
+use Rattle.events.specs.Events.{named, byteAt, starts, ofKind, eventOf}
 
 -- ---- the length, and the heads that are named
 

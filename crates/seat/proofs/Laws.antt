@@ -1,15 +1,15 @@
 -- What the code hands back, put together from what its calls hand back.
-use mathlib.Core.Bool.{Bool, true, false, cond, not}
+use mathlib.Core.Bool.{Bool, true, false, not}
 use mathlib.Core.List.{List, [], _∷_}
 use mathlib.Core.Path.{_≡_, refl, sym, ap, _∙_}
-use Prim.Native.Nat.{ℕ, _≤_, _<_}
+use Prim.Native.Nat.{ℕ, _≤_}
 use native.Mathlib.Omega.{arith}
-use borrow.Author.Tests.{not-true, not-false, le-leb, lt-leb, leb-true}
+use borrow.Author.Tests.{not-true, not-false, leb-true}
 use denote.Enum.Declared.{tagOf}
 use types.Run.{OneOf, miss}
 use lib.Dec.{ltb, leb}
-use lib.ListN.{length, getD, take, replicate}
-use Rattle.loops.proofs.Laws.Truth.{and-left, and-right}
+use lib.ListN.{length, getD, replicate}
+use Rattle.loops.proofs.Laws.Truth.{and-right}
 use Rattle.group.proofs.answers.Answer.{the-type}
 use Rattle.group.specs.declared.answers.Answer.{Answer}
 use Rattle.group.specs.declared.answers.Answer.the-variants as answer

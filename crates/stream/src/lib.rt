@@ -54,7 +54,7 @@ fn print_lines(s: &[u8], out: &mut [u8]) -> Fed
 }
 
 // Moves the n bytes at from to the start.
-fn keep(buf: &mut [u8], from: usize, n: usize)
+pub fn keep(buf: &mut [u8], from: usize, n: usize)
     requires { ⌜ from + n ≤ length (now buf) ⌝ }
     ensures { λ _. ⌜ take n (now (buf .exit)) ≡ take n (drop from (now (buf .entry))) ⌝ }
 {

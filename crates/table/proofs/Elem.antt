@@ -1,6 +1,5 @@
 -- What the walks over the table cite of the types, in one place: laws that the checker makes of each declared type, under short names.
 -- Only `size` depends on what a `Seat` holds, so a change of the structs leaves the walks as they are.
-use mathlib.Core.Path.{_≡_, refl, ap}
 use Prim.Native.Nat.{ℕ, _<_, _^_, _*_}
 use native.Mathlib.Omega.{arith}
 use mathlib.Core.List.{List, [], _∷_}
@@ -15,7 +14,6 @@ use denote.RattleType.{RattleType}
 use denote.Laws.{Is, Tells, Makes, Lawful}
 use denote.Memory.{mem}
 use denote.Slice.{Room}
-use denote.Steps.{only}
 use denote.Enum.Laws as EL
 use denote.Struct.Laws as LL
 use Rattle.seat.specs.declared.Deed.{Deed}

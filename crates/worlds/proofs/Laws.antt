@@ -5,3 +5,4 @@ pub mod Texts
 pub mod Line
 pub mod Orders
 pub mod Turn
+pub mod Parts

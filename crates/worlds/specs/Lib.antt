@@ -4,3 +4,4 @@ pub mod Formed
 pub mod Texts
 pub mod Bench
 pub mod Desk
+pub mod Parts

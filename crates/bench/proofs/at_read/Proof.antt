@@ -1,7 +1,6 @@
 -- By the definition.
 use mathlib.Core.Path.{refl}
 use Rattle.bench.specs.Program.{atRead}
-use borrow.Author.Needs.{needs}
 use Rattle.bench.proofs.at_read.Statement.{statement}
 use Rattle.bench.proofs.at_read.Tie as tie
 

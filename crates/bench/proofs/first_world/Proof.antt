@@ -1,7 +1,6 @@
 -- By the definition.
 use mathlib.Core.Path.{refl}
 use Rattle.bench.specs.Program.{firstWorld}
-use borrow.Author.Needs.{needs}
 use Rattle.bench.proofs.first_world.Statement.{statement}
 use Rattle.bench.proofs.first_world.Tie as tie
 

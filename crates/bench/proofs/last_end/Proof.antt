@@ -3,7 +3,6 @@ use mathlib.Core.List.{[]}
 use native.Mathlib.Omega.{arith}
 use Prim.Native.Nat.{_≤_}
 use Rattle.bench.proofs.Laws.{ends-there, ends-none}
-use borrow.Author.Needs.{needs}
 use Rattle.bench.proofs.last_end.Statement.{statement}
 use Rattle.bench.proofs.last_end.Tie as tie
 

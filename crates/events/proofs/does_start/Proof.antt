@@ -1,28 +1,21 @@
+-- Start answers that it started exactly where the definition says that it can.
 use Rattle.events.proofs.Laws.{starts-yes, starts-no, not-started}
 use borrow.Author.Needs.{needs}
 use Rattle.events.proofs.does_start.Statement.{statement}
 use Rattle.events.proofs.does_start.Tie as tie
-use Rattle.events.proofs.does_start.Reads as reads
-use Rattle.events.proofs.does_start.Lts as lts
-use Rattle.start.proofs.start.Reads as start-reads
 
--- src/lib.rt:52:24
 slice-aggregate-start : tie.Need-slice-aggregate-start
 slice-aggregate-start c = search needs
 
--- src/lib.rt:52:9
 start-requires : tie.Need-start-requires
 start-requires c κs = search needs
 
--- src/lib.rt:54:28
 enum-told : tie.Need-enum-told
 enum-told c = search needs
 
--- src/lib.rt:48:1
 returns : tie.Need-returns
 returns c = starts-yes _ _ _ _ (c .before .before .before .start .ensures) (c .enum-told .given .1)
 
--- src/lib.rt:48:1
 returns-2 : tie.Need-returns-2
 returns-2 c = starts-no _ _ _ _ (c .before .before .start .ensures) (not-started (c .before .before .start .result) (c .match .keys2))
 

@@ -1,42 +1,32 @@
+-- Two numbers of two bytes make one of four.
 use Rattle.lines.proofs.Laws.Frame.{four-drop}
 use Rattle.lines.specs.Hex.{unhex}
 use native.Mathlib.Omega.{arith}
 use borrow.Author.Needs.{needs}
 use Rattle.events.proofs.four_at.Statement.{statement}
 use Rattle.events.proofs.four_at.Tie as tie
-use Rattle.events.proofs.four_at.Reads as reads
-use Rattle.events.proofs.four_at.Lts as lts
-use Rattle.events.proofs.two_at.Reads as two-at-reads
 
--- src/lib.rt:42:16
 two-at-requires : tie.Need-two-at-requires
 two-at-requires c κs = search needs
 
--- src/lib.rt:42:16
 cast-high : tie.Need-cast-high
 cast-high c = search needs
 
--- src/lib.rt:43:25
 add-two-at : tie.Need-add-two-at
 add-two-at c = search needs
 
--- src/lib.rt:43:15
 two-at-requires-2 : tie.Need-two-at-requires-2
 two-at-requires-2 c κs = search needs
 
--- src/lib.rt:43:15
 cast-low : tie.Need-cast-low
 cast-low c = search needs
 
--- src/lib.rt:44:5
 mul-result : tie.Need-mul-result
 mul-result c = search needs
 
--- src/lib.rt:44:5
 add-result : tie.Need-add-result
 add-result c = search needs
 
--- src/lib.rt:38:1
 returns : tie.Need-returns
 returns c = omega (arith, four-drop (unhex (c .before .before .before .args .l .now)) (c .before .before .before .args .at))
 

@@ -1,3 +1,4 @@
+-- The length, then the heads that are named.
 use mathlib.Core.Path.{ap₂}
 use Prim.Native.Nat.{ℕ}
 use Rattle.events.specs.declared.Event.the-variants.{Cut}
@@ -6,30 +7,21 @@ use Rattle.events.proofs.Laws.{wrong-length, right-length, no-head, a-h
 use borrow.Author.Needs.{needs}
 use Rattle.events.proofs.read_cut.Statement.{statement}
 use Rattle.events.proofs.read_cut.Tie as tie
-use Rattle.events.proofs.read_cut.Reads as reads
-use Rattle.events.proofs.read_cut.Lts as lts
-use Rattle.events.proofs.two_at.Reads as two-at-reads
-use Rattle.hex.proofs.byte_at.Reads as byte-at-reads
 
--- src/lib.rt:138:9
 returns : tie.Need-returns
 unfolding cutEvent
 returns c = wrong-length _ _ _ (c .if1 .taken)
 
--- src/lib.rt:140:9
 byte-at-requires : tie.Need-byte-at-requires
 byte-at-requires c κs = search needs
 
--- src/lib.rt:141:9
 two-at-requires : tie.Need-two-at-requires
 two-at-requires c κs = search needs
 
--- src/lib.rt:143:9
 returns-2 : tie.Need-returns-2
 unfolding cutEvent byteAt
 returns-2 c = right-length _ _ _ (c .before .before .before .if1 .left) (no-head _ _ _ (c .before .before .byte-at .ensures) (c .if2 .taken))
 
--- src/lib.rt:134:1
 returns-3 : tie.Need-returns-3
 unfolding cutEvent byteAt
 returns-3 c = right-length _ _ _ (c .before .before .before .if1 .left) (a-head _ _ _ (c .before .before .byte-at .ensures) (c .if2 .left) (ap₂ (λ (a b : ℕ). Cut a b) (c .before .before .byte-at .ensures) (c .before .two-at .ensures)))

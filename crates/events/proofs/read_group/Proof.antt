@@ -1,6 +1,6 @@
+-- The length, then whether start takes the group.
 use mathlib.Core.Path.{_∙_, ap₂}
 use Prim.Native.Nat.{ℕ}
-use Rattle.loops.proofs.Laws.Truth.{failed, passed}
 use borrow.Author.Tests.{not-true, not-false}
 use Rattle.events.specs.declared.Event.the-variants.{GroupIs}
 use Rattle.events.specs.Events.{starts, groupEvent, byteAt}
@@ -8,35 +8,24 @@ use Rattle.events.proofs.Laws.{wrong-length, right-length, no-group, a-
 use borrow.Author.Needs.{needs}
 use Rattle.events.proofs.read_group.Statement.{statement}
 use Rattle.events.proofs.read_group.Tie as tie
-use Rattle.events.proofs.read_group.Reads as reads
-use Rattle.events.proofs.read_group.Lts as lts
-use Rattle.events.proofs.does_start.Reads as does-start-reads
-use Rattle.events.proofs.two_at.Reads as two-at-reads
-use Rattle.hex.proofs.byte_at.Reads as byte-at-reads
 
--- src/lib.rt:63:9
 returns : tie.Need-returns
 unfolding groupEvent
 returns c = wrong-length _ _ _ (c .if1 .taken)
 
--- src/lib.rt:65:9
 two-at-requires : tie.Need-two-at-requires
 two-at-requires c κs = search needs
 
--- src/lib.rt:66:9
 byte-at-requires : tie.Need-byte-at-requires
 byte-at-requires c κs = search needs
 
--- src/lib.rt:67:9
 does-start-requires : tie.Need-does-start-requires
 does-start-requires c κs = search needs
 
--- src/lib.rt:68:9
 returns-2 : tie.Need-returns-2
 unfolding groupEvent byteAt
 returns-2 c = right-length _ _ _ (c .before .before .before .before .if1 .left) (no-group _ _ _ (c .before .does-start .ensures ∙ ap₂ starts (c .before .before .before .two-at .ensures) (c .before .before .byte-at .ensures)) (not-true _ (c .if2 .taken)))
 
--- src/lib.rt:59:1
 returns-3 : tie.Need-returns-3
 unfolding groupEvent byteAt
 returns-3 c = right-length _ _ _ (c .before .before .before .before .if1 .left) (a-group _ _ _ (c .before .does-start .ensures ∙ ap₂ starts (c .before .before .before .two-at .ensures) (c .before .before .byte-at .ensures)) (not-false _ (c .if2 .left)) (ap₂ (λ (a b : ℕ). GroupIs a b) (c .before .before .before .two-at .ensures) (c .before .before .byte-at .ensures)))

@@ -1,3 +1,4 @@
+-- The length, then the heads that are named.
 use mathlib.Core.Path.{ap}
 use Prim.Native.Nat.{ℕ}
 use Rattle.events.specs.declared.Event.the-variants.{Recover}
@@ -6,25 +7,18 @@ use Rattle.events.proofs.Laws.{wrong-length, right-length, no-head, a-h
 use borrow.Author.Needs.{needs}
 use Rattle.events.proofs.read_recover.Statement.{statement}
 use Rattle.events.proofs.read_recover.Tie as tie
-use Rattle.events.proofs.read_recover.Reads as reads
-use Rattle.events.proofs.read_recover.Lts as lts
-use Rattle.hex.proofs.byte_at.Reads as byte-at-reads
 
--- src/lib.rt:178:9
 returns : tie.Need-returns
 unfolding recoverEvent
 returns c = wrong-length _ _ _ (c .if1 .taken)
 
--- src/lib.rt:180:9
 byte-at-requires : tie.Need-byte-at-requires
 byte-at-requires c κs = search needs
 
--- src/lib.rt:182:9
 returns-2 : tie.Need-returns-2
 unfolding recoverEvent byteAt
 returns-2 c = right-length _ _ _ (c .before .before .if1 .left) (no-head _ _ _ (c .before .byte-at .ensures) (c .if2 .taken))
 
--- src/lib.rt:174:1
 returns-3 : tie.Need-returns-3
 unfolding recoverEvent byteAt
 returns-3 c = right-length _ _ _ (c .before .before .if1 .left) (a-head _ _ _ (c .before .byte-at .ensures) (c .if2 .left) (ap (λ (a : ℕ). Recover a) (c .before .byte-at .ensures)))

@@ -95,7 +95,7 @@ line-end-le (b ∷ s) = go (eqb b 10) (line-end-le s)
     go false h = omega arith
 
 -- the first line ends where it ended, and has the same characters
-line-end-first : (s : List ℕ) → lineEnd (firstOf s) ≡ lineEnd s
+pub line-end-first : (s : List ℕ) → lineEnd (firstOf s) ≡ lineEnd s
 unfolding lineEnd firstOf
 line-end-first [] = refl
 line-end-first (b ∷ s) = go (eqb b 10) refl (line-end-first s)
@@ -104,7 +104,7 @@ line-end-first (b ∷ s) = go (eqb b 10) refl (line-end-first s)
     go true e ih = rw e
     go false e ih = rw e (ap suc ih)
 
-line-of-first : (s : List ℕ) → lineOf (firstOf s) ≡ lineOf s
+pub line-of-first : (s : List ℕ) → lineOf (firstOf s) ≡ lineOf s
 unfolding lineOf firstOf
 line-of-first s = ap (λ (k : ℕ). take k (take (suc (lineEnd s)) s)) (line-end-first s) ∙ take-take (lineEnd s) (suc (lineEnd s)) s (omega arith)
 

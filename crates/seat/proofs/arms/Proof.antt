@@ -1,11 +1,9 @@
+-- By the definition.
 use mathlib.Core.Path.{refl}
 use Rattle.seat.specs.Played.{arms}
 use Rattle.seat.proofs.arms.Statement.{statement}
 use Rattle.seat.proofs.arms.Tie as tie
-use Rattle.seat.proofs.arms.Reads as reads
-use Rattle.seat.proofs.arms.Lts as lts
 
--- src/lib.rt:277:1
 returns : tie.Need-returns
 unfolding arms
 returns c = refl

@@ -1,19 +1,15 @@
+-- By the answer: only a written line has characters.
 use Rattle.seat.proofs.Laws.{no-chars}
 use borrow.Author.Needs.{needs}
 use Rattle.seat.proofs.chars_of.Statement.{statement}
 use Rattle.seat.proofs.chars_of.Tie as tie
-use Rattle.seat.proofs.chars_of.Reads as reads
-use Rattle.seat.proofs.chars_of.Lts as lts
 
--- src/lib.rt:109:25
 enum-known-answer : tie.Need-enum-known-answer
 enum-known-answer c = search needs
 
--- src/lib.rt:105:1
 returns : tie.Need-returns
 returns c = search needs
 
--- src/lib.rt:105:1
 returns-2 : tie.Need-returns-2
 returns-2 c = no-chars (c .before .args .answer) (c .match .keys2)
 

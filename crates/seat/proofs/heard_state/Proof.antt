@@ -1,30 +1,23 @@
+-- The first characters of the array are the line.
 use mathlib.Core.Path.{sym}
 use native.Mathlib.Omega.{arith}
 use lib.Seq.{length-take-le}
 use borrow.Author.Needs.{needs}
 use Rattle.seat.proofs.heard_state.Statement.{statement}
 use Rattle.seat.proofs.heard_state.Tie as tie
-use Rattle.seat.proofs.heard_state.Reads as reads
-use Rattle.seat.proofs.heard_state.Lts as lts
-use Rattle.head.proofs.session.Session.hear_state.Reads as hear-state-reads
 
--- src/lib.rt:328:18
 slice-aggregate-hear-state : tie.Need-slice-aggregate-hear-state
 slice-aggregate-hear-state c = search needs
 
--- src/lib.rt:328:26
 array-share-prefix-bytes : tie.Need-array-share-prefix-bytes
 array-share-prefix-bytes c = search needs
 
--- src/lib.rt:328:26
 slice-aggregate-hear-state-2 : tie.Need-slice-aggregate-hear-state-2
 slice-aggregate-hear-state-2 c = sym (length-take-le _ _ (omega arith))
 
--- src/lib.rt:328:5
 hear-state-requires : tie.Need-hear-state-requires
 hear-state-requires c κs = search needs
 
--- src/lib.rt:324:1
 returns : tie.Need-returns
 returns c = search needs
 

@@ -1,41 +1,27 @@
-use native.Mathlib.Omega.{arith}
+-- A line that is kept is heard by the call's own contract; without one the head stays as it is.
 use Rattle.seat.proofs.Laws.{state-not-kept, state-kept, line-long}
 use borrow.Author.Needs.{needs}
 use Rattle.seat.proofs.hears_state.Statement.{statement}
 use Rattle.seat.proofs.hears_state.Tie as tie
-use Rattle.seat.proofs.hears_state.Reads as reads
-use Rattle.seat.proofs.hears_state.Lts as lts
-use Rattle.seat.proofs.does_nothing.Reads as does-nothing-reads
-use Rattle.seat.proofs.heard_state.Reads as heard-state-reads
-use Rattle.seat.proofs.is_line.Reads as is-line-reads
-use Rattle.seat.proofs.kept_at.Reads as kept-at-reads
-use Rattle.seat.proofs.listened.Reads as listened-reads
 
--- src/lib.rt:334:9
 kept-at-requires : tie.Need-kept-at-requires
 kept-at-requires c κs = search needs
 
--- src/lib.rt:336:9
 is-line-requires : tie.Need-is-line-requires
 is-line-requires c κs = search needs
 
--- src/lib.rt:337:9
 does-nothing-requires : tie.Need-does-nothing-requires
 does-nothing-requires c κs = search needs
 
--- src/lib.rt:337:9
 returns : tie.Need-returns
 returns c = state-not-kept _ (c .before .before .before .before .args .g) _ _ _ (c .before .before .before .kept-at .ensures) (c .before .before .is-line .ensures) _ (c .before .if1 .taken) (c .does-nothing .ensures)
 
--- src/lib.rt:342:9
 heard-state-requires : tie.Need-heard-state-requires
 heard-state-requires c κs = line-long _ _ (c .before .before .before .before .is-line .ensures) (c .before .before .before .if1 .left)
 
--- src/lib.rt:345:5
 listened-requires : tie.Need-listened-requires
 listened-requires c κs = search needs
 
--- src/lib.rt:331:1
 returns-2 : tie.Need-returns-2
 returns-2 c = state-kept _ (c .before .before .before .before .before .before .before .before .before .args .g) _ _ _ (c .before .before .before .before .before .before .before .before .kept-at .ensures) (c .before .before .before .before .before .before .before .is-line .ensures) _ (c .before .before .heard-state .result) (c .before .before .before .before .before .before .if1 .left) (c .listened .ensures) (c .before .before .heard-state .ensures)
 

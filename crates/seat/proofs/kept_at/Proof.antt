@@ -1,31 +1,23 @@
-use mathlib.Core.Path.{_∙_}
+-- By the test.
 use borrow.Author.Tests.{le-leb, lt-leb}
 use Rattle.seat.specs.Seat.{keptAt}
 use borrow.Author.Needs.{needs}
 use Rattle.seat.proofs.kept_at.Statement.{statement}
 use Rattle.seat.proofs.kept_at.Tie as tie
-use Rattle.seat.proofs.kept_at.Reads as reads
-use Rattle.seat.proofs.kept_at.Lts as lts
-use Rattle.seat.proofs.no_line.Reads as no-line-reads
 
--- src/lib.rt:315:9
 no-line-requires : tie.Need-no-line-requires
 no-line-requires c κs = search needs
 
--- src/lib.rt:315:9
 returns : tie.Need-returns
 unfolding keptAt
 returns c = rw (lt-leb _ _ (c .before .if1 .taken)) (c .no-line .ensures)
 
--- src/lib.rt:318:5
 mul-result : tie.Need-mul-result
 mul-result c = search needs
 
--- src/lib.rt:318:5
 array-copy-out-result : tie.Need-array-copy-out-result
 array-copy-out-result c = search needs
 
--- src/lib.rt:311:1
 returns-2 : tie.Need-returns-2
 unfolding keptAt
 returns-2 c = rw (le-leb _ _ (c .before .before .if1 .left))

@@ -1,11 +1,9 @@
+-- By the definition.
 use mathlib.Core.Path.{refl}
 use Rattle.seat.specs.Played.{listened}
 use Rattle.seat.proofs.listened.Statement.{statement}
 use Rattle.seat.proofs.listened.Tie as tie
-use Rattle.seat.proofs.listened.Reads as reads
-use Rattle.seat.proofs.listened.Lts as lts
 
--- src/lib.rt:291:1
 returns : tie.Need-returns
 unfolding listened
 returns c = refl

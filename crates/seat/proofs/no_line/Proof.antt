@@ -1,11 +1,9 @@
+-- By the definition.
 use mathlib.Core.Path.{refl}
 use Rattle.seat.specs.Seat.{noLine, blank}
 use Rattle.seat.proofs.no_line.Statement.{statement}
 use Rattle.seat.proofs.no_line.Tie as tie
-use Rattle.seat.proofs.no_line.Reads as reads
-use Rattle.seat.proofs.no_line.Lts as lts
 
--- src/lib.rt:63:1
 returns : tie.Need-returns
 unfolding noLine blank
 returns c = refl

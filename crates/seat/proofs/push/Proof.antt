@@ -1,24 +1,19 @@
+-- The first three of four move up by one.
 use native.Mathlib.Omega.{arith}
 use Rattle.seat.proofs.Laws.{push-is}
 use borrow.Author.Needs.{needs}
 use Rattle.seat.proofs.push.Statement.{statement}
 use Rattle.seat.proofs.push.Tie as tie
-use Rattle.seat.proofs.push.Reads as reads
-use Rattle.seat.proofs.push.Lts as lts
 
--- src/lib.rt:98:13
 array-copy-out-a : tie.Need-array-copy-out-a
 array-copy-out-a c = search needs
 
--- src/lib.rt:99:13
 array-copy-out-b : tie.Need-array-copy-out-b
 array-copy-out-b c = search needs
 
--- src/lib.rt:100:13
 array-copy-out-c : tie.Need-array-copy-out-c
 array-copy-out-c c = search needs
 
--- src/lib.rt:95:1
 returns : tie.Need-returns
 returns c = push-is _ _ _ (omega arith)
 

@@ -1,29 +1,21 @@
+-- By the answer: a line is sent on an entry and on nothing else.
 use Rattle.seat.proofs.Laws.{entry-sent, no-entry-sent}
 use borrow.Author.Needs.{needs}
 use Rattle.seat.proofs.sent_on_entry.Statement.{statement}
 use Rattle.seat.proofs.sent_on_entry.Tie as tie
-use Rattle.seat.proofs.sent_on_entry.Reads as reads
-use Rattle.seat.proofs.sent_on_entry.Lts as lts
-use Rattle.seat.proofs.push.Reads as push-reads
-use Rattle.seat.proofs.state_line.Reads as state-line-reads
 
--- src/lib.rt:144:33
 enum-told : tie.Need-enum-told
 enum-told c = search needs
 
--- src/lib.rt:144:33
 state-line-requires : tie.Need-state-line-requires
 state-line-requires c κs = search needs
 
--- src/lib.rt:144:28
 push-requires : tie.Need-push-requires
 push-requires c κs = search needs
 
--- src/lib.rt:135:1
 returns : tie.Need-returns
 returns c = entry-sent _ _ _ _ _ _ (c .before .before .enum-told .given .1) (c .before .state-line .ensures) (c .push .ensures)
 
--- src/lib.rt:135:1
 returns-2 : tie.Need-returns-2
 returns-2 c = no-entry-sent _ _ _ (c .before .args .answer) (c .match .keys2)
 

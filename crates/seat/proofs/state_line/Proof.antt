@@ -1,30 +1,22 @@
+-- The writing call's own contract, on an output of zeros.
 use Rattle.seat.proofs.Laws.{line-is}
 use Rattle.seat.specs.Seat.{stateSent, blank}
 use borrow.Author.Needs.{needs}
 use Rattle.seat.proofs.state_line.Statement.{statement}
 use Rattle.seat.proofs.state_line.Tie as tie
-use Rattle.seat.proofs.state_line.Reads as reads
-use Rattle.seat.proofs.state_line.Lts as lts
-use Rattle.head.proofs.session.Session.write_state.Reads as write-state-reads
-use Rattle.seat.proofs.chars_of.Reads as chars-of-reads
 
--- src/lib.rt:118:30
 slice-aggregate-write-state : tie.Need-slice-aggregate-write-state
 slice-aggregate-write-state c = search needs
 
--- src/lib.rt:118:38
 slice-aggregate-write-state-2 : tie.Need-slice-aggregate-write-state-2
 slice-aggregate-write-state-2 c = search needs
 
--- src/lib.rt:118:9
 write-state-requires : tie.Need-write-state-requires
 write-state-requires c κs = search needs
 
--- src/lib.rt:120:9
 chars-of-requires : tie.Need-chars-of-requires
 chars-of-requires c κs = search needs
 
--- src/lib.rt:114:1
 returns : tie.Need-returns
 unfolding stateSent blank
 returns c = line-is _ _ (c .before .before .write-state .result) _ (c .before .before .write-state .ensures) (c .chars-of .ensures)

@@ -1,15 +1,12 @@
+-- By the test.
 use Rattle.seat.specs.Seat.{storesFor}
 use Rattle.seat.proofs.stores_of.Statement.{statement}
 use Rattle.seat.proofs.stores_of.Tie as tie
-use Rattle.seat.proofs.stores_of.Reads as reads
-use Rattle.seat.proofs.stores_of.Lts as lts
 
--- src/lib.rt:88:1
 returns : tie.Need-returns
 unfolding storesFor
 returns c = rw (c .if1 .taken)
 
--- src/lib.rt:88:1
 returns-2 : tie.Need-returns-2
 unfolding storesFor
 returns-2 c = rw (c .if1 .left)

@@ -23,14 +23,14 @@ use Rattle.stream.proofs.Laws.Shown.{broken-shown, long-refused, printe
 
 -- ---- no newline
 
-abbrev NoEnd : List ℕ → Type 0
+abbrev pub NoEnd : List ℕ → Type 0
 NoEnd p = length p ≤ lineEnd p
 
-none-nil : NoEnd []
+pub none-nil : NoEnd []
 unfolding lineEnd
 none-nil = omega arith
 
-none-snoc : (p : List ℕ) (b : ℕ) → NoEnd p → eqb b 10 ≡ false → NoEnd (p ++ (b ∷ []))
+pub none-snoc : (p : List ℕ) (b : ℕ) → NoEnd p → eqb b 10 ≡ false → NoEnd (p ++ (b ∷ []))
 unfolding lineEnd
 none-snoc [] b h e = rw e (omega arith)
 none-snoc (a ∷ p) b h e = go (eqb a 10) h (none-snoc p b)
@@ -40,7 +40,7 @@ none-snoc (a ∷ p) b h e = go (eqb a 10) h (none-snoc p b)
     go true k ih = absurd (not-suc-le-zero k)
     go false k ih = omega (arith, ih (omega arith) e)
 
-none-take : (n : ℕ) (s : List ℕ) → NoEnd s → NoEnd (take n s)
+pub none-take : (n : ℕ) (s : List ℕ) → NoEnd s → NoEnd (take n s)
 unfolding lineEnd
 none-take zero s h = omega arith
 none-take (suc n) [] h = omega arith
@@ -50,7 +50,7 @@ none-take (suc n) (b ∷ s) h = go (eqb b 10) h (none-take n s)
     go true k ih = absurd (not-suc-le-zero k)
     go false k ih = omega (arith, ih (omega arith))
 
-none-begun : (p s : List ℕ) → NoEnd p → NoEnd (begun p s)
+pub none-begun : (p s : List ℕ) → NoEnd p → NoEnd (begun p s)
 unfolding begun
 none-begun p [] h = h
 none-begun p (b ∷ s) h = go (eqb b 10) refl (none-begun [] s none-nil) (none-begun (p ++ (b ∷ [])) s)
@@ -60,7 +60,7 @@ none-begun p (b ∷ s) h = go (eqb b 10) refl (none-begun [] s none-nil) (none-b
     go false e i j = j (none-snoc p b h e)
 
 -- a newline after it ends its line
-end-after : (p : List ℕ) → NoEnd p → lineEnd (p ++ (10 ∷ [])) ≡ length p
+pub end-after : (p : List ℕ) → NoEnd p → lineEnd (p ++ (10 ∷ [])) ≡ length p
 unfolding lineEnd
 end-after [] h = refl
 end-after (a ∷ p) h = go (eqb a 10) h (end-after p)

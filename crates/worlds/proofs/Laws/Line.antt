@@ -1,10 +1,9 @@
 -- The next line of what is left, its event, and what is left after it.
 use mathlib.Core.Bool.{Bool, true, false, cond, _&&_}
-use mathlib.Core.List.{List, [], _∷_, _++_}
+use mathlib.Core.List.{List, [], _∷_}
 use mathlib.Core.Logic.{⊎-elim}
 use mathlib.Core.Path.{_≡_, refl, sym, ap, ap₂, _∙_}
 use Prim.Native.Nat.{ℕ, zero, suc, _+_, _-_, _≤_, _<_}
-use native.Mathlib.Numerals.{add-one}
 use native.Mathlib.Omega.{arith}
 use borrow.Author.Tests.{leb-true, lt-ltb, le-ltb}
 use lib.Dec.{eqb, leb, ltb}
@@ -16,7 +15,7 @@ use Rattle.loops.specs.Below.{every}
 use Rattle.lines.specs.Frame.{two, four}
 use Rattle.lines.specs.Hex.{isDigit, unhex, lineEnd, lineOf, restOf}
 use Rattle.lines.specs.Walk.{wholeLines, begun, firstOf}
-use Rattle.lines.proofs.Laws.Walk.{first-whole, none-whole}
+use Rattle.lines.proofs.Laws.Walk.{first-whole, none-whole, line-end-first, line-of-first}
 use Rattle.events.specs.declared.Event.{Event}
 use Rattle.events.specs.declared.Event.the-variants as event
 use Rattle.events.specs.Events.{named, byteAt, starts, groupEvent, viewEvent, enterEvent, stateEvent, decideEvent, attemptEvent, formEvent, cutEvent, recoverEvent, ofKind, eventOf}
@@ -122,26 +121,12 @@ event-named l = if-named (ltb (lineEnd l) (length l)) (eventOf (lineOf l)) (if-n
 
 -- ---- the event of the first line
 
--- the first line ends where it ended
-line-end-first : (s : List ℕ) → lineEnd (firstOf s) ≡ lineEnd s
-unfolding lineEnd firstOf
-line-end-first [] = refl
-line-end-first (b ∷ s) = go (eqb b 10) refl (line-end-first s)
-  where
-    go : (c : Bool) → eqb b 10 ≡ c → lineEnd (firstOf s) ≡ lineEnd s → lineEnd (take (suc (cond c 0 (suc (lineEnd s)))) (b ∷ s)) ≡ cond c 0 (suc (lineEnd s))
-    go true e ih = rw e
-    go false e ih = rw e (ap suc ih)
-
-line-of-first : (s : List ℕ) → lineOf (firstOf s) ≡ take (lineEnd s) s
-unfolding lineOf firstOf
-line-of-first s = ap (λ (k : ℕ). take k (take (suc (lineEnd s)) s)) (line-end-first s) ∙ take-take (lineEnd s) (suc (lineEnd s)) s (omega arith)
-
 long-first : (s : List ℕ) → lineEnd s < length s → length (firstOf s) ≡ suc (lineEnd s)
 unfolding firstOf
 long-first s h = length-take-le (suc (lineEnd s)) s h
 
 pub event-first : (s : List ℕ) → lineEnd s < length s → eventIn (firstOf s) ≡ eventOf (take (lineEnd s) s)
-unfolding eventIn
+unfolding eventIn lineOf
 event-first s h =
     let n : length (firstOf s) ≡ suc (lineEnd s) = long-first s h in
     rw (lt-ltb (lineEnd (firstOf s)) (length (firstOf s)) (omega (arith, n, line-end-first s))) (ap eventOf (line-of-first s))

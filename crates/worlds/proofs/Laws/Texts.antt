@@ -8,13 +8,14 @@ use native.Mathlib.Omega.{arith}
 use borrow.Author.Tests.{lt-ltb, le-ltb}
 use lib.Bits.{bitAnd}
 use lib.ListN.{length, getD, take, set}
-use lib.Seq.{take-suc, take-suc-set, take-all, take-nil}
+use lib.Seq.{take-suc, take-suc-set}
 use Rattle.group.specs.declared.answers.Answer.{Answer}
 use Rattle.group.specs.declared.answers.Answer.the-variants as answer
 use Rattle.group.specs.declared.answers.Refusal.{Refusal}
 use Rattle.group.specs.Answers.{said, refusalNumber}
 use Rattle.seat.specs.declared.Reply.{Reply}
 use Rattle.seat.specs.Played.{told}
+use Rattle.stream.proofs.Laws.Put.{put-two, put-three}
 use Rattle.stream.specs.Shown.{field, headsText}
 use Rattle.text.specs.Text.{decimal, digits}
 use Rattle.group.specs.Heads.{common}
@@ -73,14 +74,7 @@ lines-again p L x y i b w h e f g k =
     ∙ ap (λ (z : List ℕ). p ++ z)
     (ap (λ (z : ℕ). sessionLines 0 (take i L) ++ sessionLine z w) e ∙ ap (λ (z : ℕ). sessionLines 0 (take i L) ++ sessionLine (beforeOf 0 i L) z) f ∙ sym (lines-snoc 0 i L h) ∙ ap (λ (n : ℕ). sessionLines 0 (take n L)) (sym (add-one i)))
 
--- ---- texts together
-
-module _ (o : List ℕ) where
-  pub put-two : (a b : List ℕ) {x y : List ℕ} → x ≡ o ++ a → y ≡ x ++ b → y ≡ o ++ (a ++ b)
-  put-two a b e f = f ∙ ap (λ (z : List ℕ). z ++ b) e ∙ append-assoc o a b
-
-  pub put-three : (a b d : List ℕ) {x y z : List ℕ} → x ≡ o ++ a → y ≡ x ++ b → z ≡ y ++ d → z ≡ o ++ (a ++ b ++ d)
-  put-three a b d e f g = put-two (a ++ b) d (put-two a b e f) g
+-- ---- words
 
 -- a word of at most 24 characters, for the answer and for the reply that it stands for
 pub answer-text : (r at : ℕ) (o x t : List ℕ) (a b : Answer) → a ≡ b → (r ≡ at + length t) × (x ≡ o ++ t) → length t ≤ 24 → t ≡ saidText (said b) → (r ≤ at + 24) × (x ≡ o ++ saidText (said a))

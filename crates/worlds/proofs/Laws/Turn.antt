@@ -1,10 +1,10 @@
 -- One turn of the bench, from what its three calls give: a head that is started leaves the bench that the lists stand for as it was, since that head counted as
 -- started; otherwise the next line is taken, field by field.
 use mathlib.Core.Bool.{Bool, true, false, cond, _||_}
-use mathlib.Core.List.{List, [], _∷_, _++_, append-nil}
+use mathlib.Core.List.{List, [], _++_, append-nil}
 use mathlib.Core.Logic.{⊎-elim}
 use mathlib.Core.Path.{_≡_, refl, sym, ap, ap₂, _∙_}
-use Prim.Native.Nat.{ℕ, zero, suc, _+_, _-_, _*_, _≤_, _<_}
+use Prim.Native.Nat.{ℕ, zero, suc, _+_, _-_, _≤_, _<_}
 use native.Mathlib.Numerals.{add-one}
 use native.Mathlib.Omega.{arith}
 use borrow.Author.Tests.{lt-ltb, le-ltb}
@@ -26,9 +26,9 @@ use Rattle.worlds.specs.declared.Order.{Order}
 use Rattle.worlds.specs.Formed.{noted}
 use Rattle.worlds.specs.Texts.{toldText}
 use Rattle.worlds.specs.Bench.{Bench, seatAt, startLast, toOf, fromOf, whatOf, opens, allStarted, newViews, acts, obeyed, happens, eventIn, taken, played}
-use Rattle.worlds.specs.Desk.{benchOf, left, startOrder, orderFor, lineNow, nextNow, orderOf, listed, keptBy, onward, oneStarted, worldAfter, Noted, Ready, turnOf, toGo, SamePart, Turned}
+use Rattle.worlds.specs.Desk.{benchOf, left, startOrder, orderFor, lineNow, nextNow, orderOf, listed, keptBy, onward, oneStarted, worldAfter, Noted, Ready, turnOf, toGo, Turned}
 use Rattle.worlds.proofs.Laws.Views.{announce-room}
-use Rattle.worlds.proofs.Laws.Line.{event-named, length-left, has-line, played-first, ends-next}
+use Rattle.worlds.proofs.Laws.Line.{event-named, has-line, played-first, ends-next}
 
 -- ---- what the bench itself keeps, field by field
 

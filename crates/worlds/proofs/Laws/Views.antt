@@ -8,9 +8,8 @@ use borrow.Author.Tests.{eq-eqb, ne-eqb, lt-ltb, le-ltb, ltb-true}
 use lib.Dec.{eqb, ltb}
 use lib.ListN.{length, getD, take}
 use lib.Seq.{length-take-le, getD-take}
-use Rattle.loops.specs.Below.{firstBelow}
 use Rattle.loops.proofs.Laws.First.{first-is, first-none}
-use Rattle.loops.proofs.Laws.Truth.{and-left, and-right}
+use Rattle.loops.proofs.Laws.Truth.{and-right}
 use Rattle.group.specs.Words.{heads, num}
 use Rattle.events.specs.declared.Event.{Event}
 use Rattle.events.specs.declared.Event.the-variants as event

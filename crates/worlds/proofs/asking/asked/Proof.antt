@@ -1,6 +1,7 @@
+-- The test of the definition, and the next line as the lent part of the input.
 use Prim.Native.Nat.{ℕ, _+_}
 use native.Mathlib.Omega.{arith}
-use mathlib.Core.Path.{_∙_, refl, sym, ap}
+use mathlib.Core.Path.{refl, ap}
 use Rattle.lines.proofs.Laws.Walk.{line-end-le}
 use Rattle.worlds.specs.Desk.{left}
 use Rattle.worlds.proofs.Laws.Line.{length-left}
@@ -8,65 +9,45 @@ use Rattle.worlds.proofs.Laws.Orders.{asked-start, asked-line}
 use borrow.Author.Needs.{needs}
 use Rattle.worlds.proofs.asking.asked.Statement.{statement}
 use Rattle.worlds.proofs.asking.asked.Tie as tie
-use Rattle.worlds.proofs.asking.asked.Reads as reads
-use Rattle.worlds.proofs.asking.asked.Lts as lts
-use Rattle.hex.proofs.line_end.Reads as line-end-reads
-use Rattle.worlds.proofs.asking.event_in.Reads as event-in-reads
-use Rattle.worlds.proofs.asking.list_view.Reads as list-view-reads
-use Rattle.worlds.proofs.asking.order_for.Reads as order-for-reads
-use Rattle.worlds.proofs.asking.start_order.Reads as start-order-reads
 
--- src/asking.rt:204:9
 start-order-requires : tie.Need-start-order-requires
 start-order-requires c κs = search needs
 
--- src/asking.rt:204:9
 returns : tie.Need-returns
 returns c = asked-start _ _ _ (c .before .before .before .before .before .args .w) _ (c .before .if1 .taken) (c .start-order .ensures)
 
--- src/asking.rt:208:16
 sub-rest : tie.Need-sub-rest
 sub-rest c = search needs
 
--- src/asking.rt:208:16
 part-rest-start : tie.Need-part-rest-start
 part-rest-start c = search needs
 
--- src/asking.rt:208:16
 part-rest-end : tie.Need-part-rest-end
 part-rest-end c = search needs
 
--- src/asking.rt:209:9
 event-in-requires : tie.Need-event-in-requires
 event-in-requires c κs = search needs
 
--- src/asking.rt:210:56
 line-end-requires : tie.Need-line-end-requires
 line-end-requires c κs = search needs
 
--- src/asking.rt:210:51
 add-order-for : tie.Need-add-order-for
 unfolding left
 add-order-for c = let a = c .before .before .before .before .before .before .before .before .args in omega (arith, c .line-end .ensures, line-end-le (left (a .s .now) (a .w)), length-left (a .s .now) (a .w) (c .before .before .before .before .before .before .before .before .pre .3))
 
--- src/asking.rt:210:51
 add-order-for-2 : tie.Need-add-order-for-2
 unfolding left
 add-order-for-2 c = let a = c .before .before .before .before .before .before .before .before .args in omega (arith, c .line-end .ensures, line-end-le (left (a .s .now) (a .w)), length-left (a .s .now) (a .w) (c .before .before .before .before .before .before .before .before .pre .3))
 
--- src/asking.rt:210:9
 order-for-requires : tie.Need-order-for-requires
 order-for-requires c κs = search needs
 
--- src/asking.rt:212:5
 list-view-requires : tie.Need-list-view-requires
 list-view-requires c κs = search needs
 
--- src/asking.rt:198:1
 same-length : tie.Need-same-length
 same-length c = search needs
 
--- src/asking.rt:198:1
 returns-2 : tie.Need-returns-2
 unfolding left
 returns-2 c = asked-line _ _ _ (c .before .before .before .before .before .before .before .before .before .before .before .before .before .args .s .now) _ (c .before .before .before .before .before .before .before .before .before .before .before .before .before .args .w) _ _ _ (c .before .before .before .before .before .before .before .before .before .if1 .left) refl (c .before .before .before .before .before .before .before .event-in .ensures) (ap (λ (k : ℕ). c .before .before .before .before .before .before .before .before .before .before .before .before .before .args .w .at + k + 1) (c .before .before .before .before .before .line-end .ensures)) (c .before .before .before .before .order-for .ensures) (c .before .before .list-view .ensures)

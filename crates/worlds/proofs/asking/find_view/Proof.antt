@@ -5,7 +5,6 @@ use Prim.Native.Nat.{ℕ, _≤_, _<_, _-_, _/_}
 use lib.ListN.{getD}
 use borrow.Author.Count.{below-more}
 use Rattle.worlds.proofs.Laws.Views.{found, not-found}
-use borrow.Author.Needs.{needs}
 use Rattle.worlds.proofs.asking.find_view.Statement.{statement}
 use Rattle.worlds.proofs.asking.find_view.Tie as tie
 

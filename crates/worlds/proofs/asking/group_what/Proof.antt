@@ -1,6 +1,5 @@
 -- By the test.
 use Rattle.worlds.specs.Bench.{groupWhat}
-use borrow.Author.Needs.{needs}
 use Rattle.worlds.proofs.asking.group_what.Statement.{statement}
 use Rattle.worlds.proofs.asking.group_what.Tie as tie
 

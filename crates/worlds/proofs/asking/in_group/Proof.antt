@@ -1,6 +1,5 @@
 -- By the test.
 use Rattle.worlds.specs.Bench.{inGroup}
-use borrow.Author.Needs.{needs}
 use Rattle.worlds.proofs.asking.in_group.Statement.{statement}
 use Rattle.worlds.proofs.asking.in_group.Tie as tie
 

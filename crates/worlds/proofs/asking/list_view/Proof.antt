@@ -1,6 +1,4 @@
 -- A view that is announced is stored where there is room.
-use borrow.Author.Tests.{lt-ltb, le-ltb}
-use native.Mathlib.Omega.{arith}
 use Rattle.worlds.proofs.Laws.Orders.{listed-there, listed-full, not-listed}
 use borrow.Author.Needs.{needs}
 use Rattle.worlds.proofs.asking.list_view.Statement.{statement}

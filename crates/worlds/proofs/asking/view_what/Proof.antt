@@ -1,5 +1,4 @@
 -- The tests of the definition in its order.
-use native.Mathlib.Omega.{arith}
 use borrow.Author.Tests.{not-true, not-false}
 use Rattle.worlds.proofs.Laws.Views.{view-out, view-known, view-full, view-new}
 use borrow.Author.Needs.{needs}

@@ -1,47 +1,35 @@
+-- Texts put one after the other are put together.
 use native.Mathlib.Omega.{arith}
-use mathlib.Core.Path.{_∙_, ap}
-use mathlib.Core.List.{List, _∷_, [], _++_}
+use mathlib.Core.List.{_∷_, []}
 use Prim.Native.Nat.{_/_}
 use lib.ListN.{take}
 use Rattle.stream.specs.Shown.{field, headsText}
 use Rattle.group.specs.Heads.{common}
 use Rattle.group.specs.Words.{heads}
 use Rattle.worlds.specs.Texts.{sessionLine}
-use Rattle.worlds.proofs.Laws.Texts.{put-five, shared-is}
+use Rattle.worlds.proofs.Laws.Texts.{put-five}
 use borrow.Author.Needs.{needs}
 use Rattle.worlds.proofs.closing.put_session.Statement.{statement}
 use Rattle.worlds.proofs.closing.put_session.Tie as tie
-use Rattle.worlds.proofs.closing.put_session.Reads as reads
-use Rattle.worlds.proofs.closing.put_session.Lts as lts
-use Rattle.stream.proofs.put_field.Reads as put-field-reads
-use Rattle.stream.proofs.put_heads.Reads as put-heads-reads
-use Rattle.text.proofs.put.Reads as put-reads
 
--- src/closing.rt:18:9
 put-requires : tie.Need-put-requires
 put-requires c κs = search needs
 
--- src/closing.rt:19:9
 put-heads-requires : tie.Need-put-heads-requires
 put-heads-requires c κs = search needs
 
--- src/closing.rt:20:9
 put-field-requires : tie.Need-put-field-requires
 put-field-requires c κs = search needs
 
--- src/closing.rt:21:9
 put-heads-requires-2 : tie.Need-put-heads-requires-2
 put-heads-requires-2 c κs = search needs
 
--- src/closing.rt:22:5
 put-requires-2 : tie.Need-put-requires-2
 put-requires-2 c κs = search needs
 
--- src/closing.rt:14:1
 same-length : tie.Need-same-length
 same-length c = search needs
 
--- src/closing.rt:14:1
 returns : tie.Need-returns
 unfolding sessionLine common
 returns c = let s = c .before .before .before .before .before .before .before .before .before .before .before .before .before .before .before .before .before .before .before .before .before .args in (omega arith, put-five (take (s .at) (s .out .now)) (70 ∷ []) (headsText (s .w)) (field (s .w / 65536)) (headsText (common (heads (s .w)) (heads (s .before)))) (10 ∷ []) (c .before .before .before .before .before .before .before .before .before .before .before .before .before .before .before .before .before .before .put .ensures .1) (c .before .before .before .before .before .before .before .before .before .before .before .before .before .before .put-heads .ensures .1) (c .before .before .before .before .before .before .before .before .before .before .put-field .ensures .1) (c .before .before .before .before .before .before .put-heads2 .ensures .1) (c .before .before .put2 .ensures .1))

@@ -1,12 +1,11 @@
 -- The lines of the first i sessions stand at the place, and the session before is kept.
 use native.Mathlib.Omega.{arith}
 use mathlib.Core.Path.{_≡_, refl, _∙_, ap}
-use mathlib.Core.List.{List, _++_}
+use mathlib.Core.List.{_++_}
 use Prim.Native.Nat.{ℕ, _+_, _*_, _≤_, _-_}
 use lib.ListN.{length, take}
 use Rattle.worlds.specs.Texts.{closing}
 use Rattle.worlds.proofs.Laws.Texts.{beforeOf, lines-none, before-none, before-again, lines-again}
-use borrow.Author.Needs.{needs}
 use Rattle.worlds.proofs.closing.put_sessions.Statement.{statement}
 use Rattle.worlds.proofs.closing.put_sessions.Tie as tie
 
