@@ -1,16 +1,21 @@
 -- What the program's loop keeps, from read to read.
 use mathlib.Core.List.{List, [], _∷_, _++_}
-use mathlib.Core.Path.{_≡_, refl, ap, _∙_}
-use Prim.Native.Nat.{ℕ, suc, _-_, _≤_, _<_}
+use mathlib.Core.Path.{_≡_, refl, sym, ap, _∙_}
+use Prim.Native.Nat.{ℕ, zero, suc, _-_, _≤_, _<_}
 use native.Mathlib.Omega.{arith}
-use lib.ListN.{length, getD, take}
-use lib.Seq.{take-suc}
+use lib.ListN.{length, getD, take, drop}
+use lib.Seq.{take-suc, take-all, take-take}
+use borrow.Author.Tests.{lt-ltb, le-ltb}
+use Rattle.loops.proofs.Laws.Order.{lt-or-ge}
+use lib.Dec.{ltb}
+use mathlib.Core.Bool.{cond}
+use mathlib.Core.Logic.{⊎-elim}
 use Rattle.lines.specs.Walk.{begun}
 use Rattle.lines.proofs.Laws.Walk.{begun-append}
 use Rattle.seat.specs.declared.Seat.{Seat}
 use Rattle.worlds.specs.declared.World.{World}
 use Rattle.worlds.specs.Desk.{left, Ready, SamePart}
-use Rattle.bench.specs.Program.{firstWorld, atRead, Between, Same, Filled, Later}
+use Rattle.bench.specs.Program.{firstWorld, atRead, heldCount, heldIn, Between, Same, Filled, Later}
 
 pub record Calm (ts : List Seat) (vs fs bs os : List ℕ) (z : World) : Type 0 where
   pub t-is : length ts ≡ 16
@@ -47,7 +52,7 @@ left-all : (bs : List ℕ) (r : World) → r .at ≡ 0 → left bs r ≡ take (r
 unfolding left
 left-all bs r e = let f : r .stop - 0 ≡ r .stop = omega arith in rw (e, f)
 
-pub ready-now : (ts : List Seat) (vs fs bs os bs' : List ℕ) (z r : World) → Calm ts vs fs bs os z → length bs' ≡ length bs → Filled bs' z r → Ready ts vs fs bs' os r
+pub ready-now : (ts : List Seat) (vs fs bs os bs' : List ℕ) (z r : World) → Calm ts vs fs bs os z → length bs' ≡ length bs → Filled bs bs' z r → Ready ts vs fs bs' os r
 ready-now ts vs fs bs os bs' z r c l f = record {
   heads = c .t-is;
   views-room = c .v-is;
@@ -64,8 +69,8 @@ pub put-fits : (ts : List Seat) (vs fs bs os : List ℕ) (z : World) → Ready t
 put-fits ts vs fs bs os z r = omega (arith, r .room)
 
 -- after the lines of a read are played and what they print is written
-pub calm-after : (ts : List Seat) (vs fs bs os bs₀ : List ℕ) (z r y x : World) → length bs ≡ 8192 → length os ≡ 196608 → Filled bs₀ z r → SamePart r y → Ready ts vs fs bs os y → Later y x → Calm ts vs fs bs os x
-calm-after ts vs fs bs os bs₀ z r y x lb lo f p q l = record {
+pub calm-after : (ts : List Seat) (vs fs bs os bs₀ bs₁ : List ℕ) (z r y x : World) → length bs ≡ 8192 → length os ≡ 196608 → Filled bs₀ bs₁ z r → SamePart r y → Ready ts vs fs bs os y → Later y x → Calm ts vs fs bs os x
+calm-after ts vs fs bs os bs₀ bs₁ z r y x lb lo f p q l = record {
   t-is = q .heads;
   v-is = q .views-room;
   f-is = q .formed-room;
@@ -78,8 +83,8 @@ calm-after ts vs fs bs os bs₀ z r y x lb lo f p q l = record {
   end = omega (arith, l .end, p .end, f .end);
 }
 
-pub fewer-after : (bs : List ℕ) (z r y x : World) → Filled bs z r → SamePart r y → Later y x → x .turns < z .turns
-fewer-after bs z r y x f p l = omega (arith, f .fewer, p .turns, l .fewer)
+pub fewer-after : (bs bs' : List ℕ) (z r y x : World) → Filled bs bs' z r → SamePart r y → Later y x → x .turns < z .turns
+fewer-after bs bs' z r y x f p l = omega (arith, f .fewer, p .turns, l .fewer)
 
 -- ---- the end of the last whole line
 
@@ -95,6 +100,24 @@ pub ends-none : (l : List ℕ) → begun [] (take 0 l) ≡ []
 unfolding begun
 ends-none l = refl
 
+-- ---- what is held
+
+length-take-most : (n : ℕ) (l : List ℕ) → length (take n l) ≤ n
+length-take-most zero l = omega arith
+length-take-most (suc n) [] = omega arith
+length-take-most (suc n) (x ∷ l) = omega (arith, length-take-most n l)
+
+take-least : (l : List ℕ) (n : ℕ) → take (cond (ltb n 15) n 15) l ≡ take 15 (take n l)
+take-least l n = ⊎-elim
+    (λ less. rw (lt-ltb n 15 less) (sym (take-all 15 (take n l) (omega (arith, length-take-most n l)))))
+    (λ more. rw (le-ltb n 15 more) (sym (take-take 15 n l more))) (lt-or-ge n 15)
+
+-- the bytes moved to the start are those held, and a read after them leaves them there
+pub held-stays : (old mid bs : List ℕ) (w : World) (h : ℕ) → h ≡ heldCount w → take h mid ≡ take h (drop (w .stop) old) → take h bs ≡ take h mid → take (heldCount w) bs ≡ heldIn old w
+unfolding heldCount heldIn
+held-stays old mid bs w h e f g =
+    ap (λ (n : ℕ). take n bs) (sym e) ∙ g ∙ f ∙ ap (λ (n : ℕ). take n (drop (w .stop) old)) e ∙ take-least (drop (w .stop) old) (w .end - w .stop)
+
 -- ---- a read, and a write
 
 same-read : (w r : World) (stop end turns : ℕ) → r ≡ atRead w stop end turns → Same w r
@@ -108,9 +131,11 @@ same-read w r stop end turns e = record {
   least = ap (λ (x : World). x .least) e;
 }
 
-pub filled-by : (bs : List ℕ) (w r : World) (stop end turns : ℕ) → r ≡ atRead w stop end turns → stop ≤ end → end ≤ 8192 → turns < w .turns → begun [] (take stop bs) ≡ [] → Filled bs w r
+pub filled-by : (old bs : List ℕ) (w r : World) (stop end turns : ℕ) → take (heldCount w) bs ≡ heldIn old w → heldCount w ≤ end → r ≡ atRead w stop end turns → stop ≤ end → end ≤ 8192 → turns < w .turns → begun [] (take stop bs) ≡ [] → Filled old bs w r
 unfolding atRead
-filled-by bs w r stop end turns e le fits fewer ends = record {
+filled-by old bs w r stop end turns kept more e le fits fewer ends = record {
+  kept = kept;
+  more = omega (arith, ap (λ (x : World). x .end) e, more);
   same = same-read w r stop end turns e;
   at = ap (λ (x : World). x .at) e;
   put = ap (λ (x : World). x .put) e;

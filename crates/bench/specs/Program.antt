@@ -1,9 +1,10 @@
 -- The program between two reads. What is held of a line that was begun are its first 15 bytes: a line that long is no event, whatever follows.
-use mathlib.Core.Bool.{false}
+use mathlib.Core.Bool.{false, cond}
 use mathlib.Core.Path.{_≡_}
 use mathlib.Core.List.{List, []}
-use Prim.Native.Nat.{ℕ, _≤_, _<_}
-use lib.ListN.{length, take}
+use Prim.Native.Nat.{ℕ, _-_, _≤_, _<_}
+use lib.Dec.{ltb}
+use lib.ListN.{length, take, drop}
 use Rattle.lines.specs.Walk.{begun}
 use Rattle.worlds.specs.declared.World.{World}
 
@@ -30,8 +31,17 @@ pub record Same (w r : World) : Type 0 where
   pub core : r .core ≡ w .core
   pub least : r .least ≡ w .least
 
--- after a read: the lines up to `stop` all end, nothing is printed of them yet, and there is a read less to make
-pub record Filled (buf : List ℕ) (w r : World) : Type 0 where
+-- how many bytes of a line that was begun are held, and which
+unfoldable pub heldCount : World → ℕ
+heldCount w = cond (ltb (w .end - w .stop) 15) (w .end - w .stop) 15
+
+unfoldable pub heldIn : List ℕ → World → List ℕ
+heldIn old w = take 15 (take (w .end - w .stop) (drop (w .stop) old))
+
+-- after a read: what is held stands first, the lines up to `stop` all end, nothing is printed of them yet, and there is a read less to make
+pub record Filled (old buf : List ℕ) (w r : World) : Type 0 where
+  pub kept : take (heldCount w) buf ≡ heldIn old w
+  pub more : heldCount w ≤ r .end
   pub same : Same w r
   pub at : r .at ≡ 0
   pub put : r .put ≡ 0

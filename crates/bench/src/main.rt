@@ -11,7 +11,7 @@ ghost use mathlib.Core.List.{[]};
 ghost use Prim.Native.Nat.{_+_, _≤_, _<_};
 ghost use lib.ListN.{length, take};
 ghost use Rattle.lines.specs.Walk.{begun};
-ghost use Rattle.bench.specs.Program.{firstWorld, atRead, Between, Filled, Later};
+ghost use Rattle.bench.specs.Program.{firstWorld, atRead, heldCount, Between, Filled, Later};
 
 // Room for one read, and for what its lines print: at most 24 characters each.
 fn input() -> [u8; 8192]
@@ -74,12 +74,15 @@ fn last_end(buf: &[u8], n: usize) -> usize
 }
 
 // How many bytes of a line that was begun are held.
-fn held_of(stop: usize, end: usize) -> usize
-    requires { ⌜ stop ≤ end ⌝ }
-    ensures { λ r. ⌜ (r ≤ 15) × (stop + r ≤ end) ⌝ }
+fn held_of(w: World) -> usize
+    requires { ⌜ w .stop ≤ w .end ⌝ }
+    ensures { λ r. ⌜ (r ≡ heldCount w) × (w .stop + r ≤ w .end) × (r ≤ 15) ⌝ }
 {
-    let n = end - stop;
-    if n < 15 { n } else { 15 }
+    let n = w.end - w.stop;
+    if n < 15 {
+        return n;
+    }
+    15
 }
 
 // The world after a read: end bytes lie in the buffer, and the lines up to stop end.
@@ -98,9 +101,9 @@ fn at_read(w: World, stop: usize, end: usize, turns: u64) -> World
 // One read, after what is held of a line that was begun.
 fn filled(buf: &mut [u8], w: World) -> World
     requires { ⌜ Between (now buf) w × (0 < w .turns) ⌝ }
-    ensures { λ r. ⌜ Filled (now (buf .exit)) w r ⌝ }
+    ensures { λ r. ⌜ Filled (now (buf .entry)) (now (buf .exit)) w r ⌝ }
 {
-    let held = held_of(w.stop, w.end);
+    let held = held_of(w);
     keep(buf, w.stop, held);
     let got = libc::read(STDIN_FILENO, &mut buf[held..]);
     if got <= 0 {

@@ -1,7 +1,11 @@
--- What is held lies at the start; after a read the lines up to the last newline end.
+use mathlib.Core.Path.{_≡_}
+use Prim.Native.Nat.{_+_, _-_, _≤_}
+use lib.ListN.{length}
+use Rattle.bench.specs.Program.{heldCount}
+use borrow.Rule.Slice.PartMut.{take-put}
+use Rattle.bench.proofs.Laws.{held-stays, filled-by, ends-none}
 use mathlib.Core.List.{[]}
 use native.Mathlib.Omega.{arith}
-use Rattle.bench.proofs.Laws.{filled-by, ends-none}
 use borrow.Author.Needs.{needs}
 use Rattle.bench.proofs.filled.Statement.{statement}
 use Rattle.bench.proofs.filled.Tie as tie
@@ -31,7 +35,12 @@ same-length : tie.Need-same-length
 same-length c = search needs
 
 returns : tie.Need-returns
-returns c = let s = c .before .before .before .before .before .before .before .before .before .before .before .before in filled-by _ (s .args .w) _ _ _ _ (c .at-read .ensures) (omega arith) (omega (arith, c .before .before .before .before .before .before .before .before .before .before .held-of .ensures .0)) (omega arith) (ends-none [])
+returns c =
+    let s = c .before .before .before .before .before .before .before .before .before .before .before .before in
+    let h = c .before .before .before .before .before .before .before .before .before .before .held-of in
+    let m = c .before .before .before .before .before .before .before .before .keep .last .0 in
+    let g : h .result ≡ heldCount (s .args .w) = h .ensures .0 in
+    filled-by (s .args .buf .now) _ (s .args .w) _ _ _ _ (held-stays (s .args .buf .now) m _ (s .args .w) (h .result) g (c .before .before .before .before .before .before .before .before .keep .ensures) (take-put (h .result) (length m - h .result) m (c .before .before .before .before .read .last .1 .0) (omega (arith, h .ensures .2, s .pre .0 .long)))) (omega (arith, g)) (c .at-read .ensures) (omega arith) (omega (arith, h .ensures .2)) (omega arith) (ends-none [])
 
 sub-count : tie.Need-sub-count
 sub-count c = search needs
@@ -61,7 +70,12 @@ same-length-2 : tie.Need-same-length-2
 same-length-2 c = search needs
 
 returns-2 : tie.Need-returns-2
-returns-2 c = let s = c .before .before .before .before .before .before .before .before .before .before .before .before .before .before .before .before .before .before in filled-by _ (s .args .w) _ _ _ _ (c .at-read2 .ensures) (c .before .before .last-end .ensures .0) (omega (arith, s .pre .0 .long, last-end-requires (c .before .before .before) (c .before .before .last-end .lifetimes), same-length-2 c)) (omega arith) (c .before .before .last-end .ensures .1)
+returns-2 c =
+    let s = c .before .before .before .before .before .before .before .before .before .before .before .before .before .before .before .before .before .before in
+    let h = c .before .before .before .before .before .before .before .before .before .before .before .before .before .before .before .before .held-of in
+    let m = c .before .before .before .before .before .before .before .before .before .before .before .before .before .before .keep .last .0 in
+    let g : h .result ≡ heldCount (s .args .w) = h .ensures .0 in
+    filled-by (s .args .buf .now) _ (s .args .w) _ _ _ _ (held-stays (s .args .buf .now) m _ (s .args .w) (h .result) g (c .before .before .before .before .before .before .before .before .before .before .before .before .before .before .keep .ensures) (take-put (h .result) (length m - h .result) m (c .before .before .before .before .before .before .before .before .before .before .read .last .1 .0) (omega (arith, h .ensures .2, s .pre .0 .long, part-read-start (c .before .before .before .before .before .before .before .before .before .before .before .before))))) (let e : heldCount (s .args .w) ≤ h .result + c .before .before .before .before .count .result = omega (arith, g) in e) (c .at-read2 .ensures) (c .before .before .last-end .ensures .0) (omega (arith, s .pre .0 .long, last-end-requires (c .before .before .before) (c .before .before .last-end .lifetimes), same-length-2 c)) (omega arith) (c .before .before .last-end .ensures .1)
 
 pub filled-spec : {M : Type 1} → statement M
 filled-spec =

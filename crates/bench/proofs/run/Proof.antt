@@ -379,8 +379,8 @@ module _ {M : Type 1} (𝓤 : URA M) (H : Heap 𝓤) (A : Atoms 𝓤) (W : Given
         move ! (2 ∷ 0 ∷ []) $ group ! 2 $ use1 W (raw (Fills 𝓤 H A mem′ run .pre (to-filled l₄ (i .bs) (i .z) ν₀ δ₀))) (goes-filled l₄ (i .ts) (i .vs) (i .fs) (i .bs) (i .os) (i .z) ν₀ δ₀ (i .is) (i .calm) (ltb→lt 0 (i .z .turns) less)) $
         calls-at ! (fmOf 𝓤 H (W .laws) 𝓣) (Fills 𝓤 H A mem′ run) known-filled (to-filled l₄ (i .bs) (i .z) ν₀ δ₀) (and-then ! (load ! (from ! (stop !)) (look ! 38 refl)) (and-then ! (load ! (from ! (stop !)) (look ! 54 refl)) (no-more !))) (λ v₁.
         use1 W (later (some (λ (r : World). ((‵ (flft (ν₀ ∷ []) fullShare) ⊛ ‵ ftrue) ⊛ ‵ (Rw .own r (v₁ ∷ []))) ⊛ raw (ensured 𝓤 H A filled.ended (filled.clauses 𝓤 H A mem′ run) (ν₀ ∷ [], tt) (record { ptr = (l₄, 0); name = δ₀; now = i .bs }, (i .z, tt)) tt r)))) (id⊢ 𝓤 _) $ await ! tt $ pick ! (λ r₁.
-        split ! $ move ! (1 ∷ []) $ use1 W (some (λ (cs : List ℕ × (Unit {0} × Unit {0})). ‵ (lasts filled.ended (ν₀ ∷ [], tt) (record { ptr = (l₄, 0); name = δ₀; now = i .bs }, (i .z, tt)) cs) ⊛ raw (fact 𝓤 (Filled (cs .0) (i .z) r₁)))) (id⊢ 𝓤 _) $ pick ! (λ cs.
-        split ! $ move ! (1 ∷ []) $ heard ! (Filled (cs .0) (i .z) r₁) (λ e₁. fsplit ! $ fsplit ! $ move ! (1 ∷ []) $ feqL ! (λ lb.
+        split ! $ move ! (1 ∷ []) $ use1 W (some (λ (cs : List ℕ × (Unit {0} × Unit {0})). ‵ (lasts filled.ended (ν₀ ∷ [], tt) (record { ptr = (l₄, 0); name = δ₀; now = i .bs }, (i .z, tt)) cs) ⊛ raw (fact 𝓤 (Filled (i .bs) (cs .0) (i .z) r₁)))) (id⊢ 𝓤 _) $ pick ! (λ cs.
+        split ! $ move ! (1 ∷ []) $ heard ! (Filled (i .bs) (cs .0) (i .z) r₁) (λ e₁. fsplit ! $ fsplit ! $ move ! (1 ∷ []) $ feqL ! (λ lb.
         move ! (2 ∷ []) $ split ! $ move ! (1 ∷ []) $ peeks ! Rw (Is Rw) (shows 𝓤 H A Rw) r₁ (v₁ ∷ []) (λ i₁. land ! (from ! (stop !)) (store ! 57 refl (world-typed 𝓤 H A W r₁ v₁ i₁)) $
         rewrite ! 57 (λ (u : Val). ‵ (fat fullShare world-mir l₆ 0 u)) (ap only (world-tells r₁ (v₁ ∷ []) i₁)) refl $ drop ! $
         move ! (0 ∷ []) $ split ! $ lft-end ! tt $ move ! (0 ∷ 4 ∷ 2 ∷ []) $ use3 W (later (‵ (row u8 fullShare (cs .0) l₄ 0))) (row-back 𝓤 H A W u8 (ν₀ ∷ []) (named 0) l₄ 0 8192 (i .bs) δ₀ (cs .0)) $ await ! tt $
@@ -425,7 +425,7 @@ module _ {M : Type 1} (𝓤 : URA M) (H : Heap 𝓤) (A : Atoms 𝓤) (W : Given
         move ! (2 ∷ []) $ peeks ! Rw (Is Rw) (shows 𝓤 H A Rw) r₃ (v₃ ∷ []) (λ i₃. land-last ! (from ! (stop !)) (store ! 59 refl (world-typed 𝓤 H A W r₃ v₃ i₃)) $
         rewrite ! 59 (λ (u : Val). ‵ (fat fullShare world-mir l₆ 0 u)) (ap only (world-tells r₃ (v₃ ∷ []) i₃)) refl $
         forget ! 19 refl $ forget ! 21 refl $ forget ! 23 refl $ forget ! 25 refl $ forget ! 27 refl $ forget ! 29 refl $ forget ! 31 refl $ forget ! 33 refl $ forget ! 35 refl $ forget ! 37 refl $ forget ! 39 refl $ forget ! 41 refl $ forget ! 43 refl $ forget ! 45 refl $ forget ! 47 refl $
-        keep ! (7 ∷ 6 ∷ 5 ∷ 4 ∷ 1 ∷ 11 ∷ 12 ∷ 13 ∷ 14 ∷ 15 ∷ 16 ∷ 17 ∷ 18 ∷ 19 ∷ 20 ∷ 21 ∷ 22 ∷ 23 ∷ 24 ∷ 25 ∷ 26 ∷ 27 ∷ 28 ∷ 29 ∷ 30 ∷ 31 ∷ 32 ∷ 33 ∷ 34 ∷ 35 ∷ 36 ∷ 37 ∷ 38 ∷ 39 ∷ 40 ∷ 41 ∷ 42 ∷ 43 ∷ 44 ∷ 45 ∷ 46 ∷ 47 ∷ 48 ∷ 49 ∷ 50 ∷ 51 ∷ 52 ∷ 53 ∷ 54 ∷ 55 ∷ 56 ∷ 57 ∷ 58 ∷ 59 ∷ 60 ∷ 61 ∷ 62 ∷ 63 ∷ 64 ∷ 65 ∷ 66 ∷ 67 ∷ []) $ again ! Nearer At i (record { ts = ws .0; vs = ws .1 .0; fs = ws .1 .1 .0; bs = cs .0; os = ws .1 .1 .1 .1 .0; z = r₃; calm = calm-after (ws .0) (ws .1 .0) (ws .1 .1 .0) (cs .0) (ws .1 .1 .1 .1 .0) (cs .0) (i .z) r₁ r₂ r₃ (lb ∙ i .calm .b-is) (lo ∙ i .calm .o-is) e₁ (e₂ .1 .part) (e₂ .0) e₃; is = subst (λ (u : Val). Is Rw r₃ (u ∷ [])) (ap only (world-tells r₃ (v₃ ∷ []) i₃)) i₃ }) (fewer-after (cs .0) (i .z) r₁ r₂ r₃ e₁ (e₂ .1 .part) e₃)))))))))))))))))))))))))))))))))))
+        keep ! (7 ∷ 6 ∷ 5 ∷ 4 ∷ 1 ∷ 11 ∷ 12 ∷ 13 ∷ 14 ∷ 15 ∷ 16 ∷ 17 ∷ 18 ∷ 19 ∷ 20 ∷ 21 ∷ 22 ∷ 23 ∷ 24 ∷ 25 ∷ 26 ∷ 27 ∷ 28 ∷ 29 ∷ 30 ∷ 31 ∷ 32 ∷ 33 ∷ 34 ∷ 35 ∷ 36 ∷ 37 ∷ 38 ∷ 39 ∷ 40 ∷ 41 ∷ 42 ∷ 43 ∷ 44 ∷ 45 ∷ 46 ∷ 47 ∷ 48 ∷ 49 ∷ 50 ∷ 51 ∷ 52 ∷ 53 ∷ 54 ∷ 55 ∷ 56 ∷ 57 ∷ 58 ∷ 59 ∷ 60 ∷ 61 ∷ 62 ∷ 63 ∷ 64 ∷ 65 ∷ 66 ∷ 67 ∷ []) $ again ! Nearer At i (record { ts = ws .0; vs = ws .1 .0; fs = ws .1 .1 .0; bs = cs .0; os = ws .1 .1 .1 .1 .0; z = r₃; calm = calm-after (ws .0) (ws .1 .0) (ws .1 .1 .0) (cs .0) (ws .1 .1 .1 .1 .0) (i .bs) (cs .0) (i .z) r₁ r₂ r₃ (lb ∙ i .calm .b-is) (lo ∙ i .calm .o-is) e₁ (e₂ .1 .part) (e₂ .0) e₃; is = subst (λ (u : Val). Is Rw r₃ (u ∷ [])) (ap only (world-tells r₃ (v₃ ∷ []) i₃)) i₃ }) (fewer-after (i .bs) (cs .0) (i .z) r₁ r₂ r₃ e₁ (e₂ .1 .part) e₃)))))))))))))))))))))))))))))))))))
         (λ over. exec ! C Λ En code′.t-13 (atRet En Post) $
         assigns ! (addr ! (from ! (stop !))) (from ! (stop !)) (init ! 11 refl (tt, tt)) $
         assigns ! (agg ! (and-then ! (load ! (from ! (stop !)) (look ! 11 refl)) (and-then ! (lit ! tt) (no-more !)))) (from ! (stop !)) (init ! 9 refl (tt, (tt, (record { fits = fits-1001 }, tt)))) $

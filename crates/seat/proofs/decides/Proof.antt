@@ -26,7 +26,9 @@ after-call-requires c κs = search needs
 
 returns : tie.Need-returns
 unfolding decides decision storesOf
-returns c = let a = c .before .before .before .before .before .before .before .before .before .before .args in decision-is (a .h) _ _ (c .before .before .before .before .before .decide .result) _ _ (c .after-call .ensures) (c .before .sent-on-decision .ensures) (c .before .before .before .before .before .decide .ensures ∙ ap (λ (k : ℕ). decideSpec (a .h .session) (a .h .words) k) (c .before .before .before .before .before .before .before .stores-of .ensures))
+returns c =
+    let a = c .before .before .before .before .before .before .before .before .before .before .args in
+    decision-is (a .h) _ _ (c .before .before .before .before .before .decide .result) _ _ (c .after-call .ensures) (c .before .sent-on-decision .ensures) (c .before .before .before .before .before .decide .ensures ∙ ap (λ (k : ℕ). decideSpec (a .h .session) (a .h .words) k) (c .before .before .before .before .before .before .before .stores-of .ensures))
 
 pub decides-spec : {M : Type 1} → statement M
 decides-spec =

@@ -26,7 +26,9 @@ after-call-requires c κs = search needs
 
 returns : tie.Need-returns
 unfolding enters entry storesOf
-returns c = let a = c .before .before .before .before .before .before .before .before .before .before .args in entry-is (a .h) _ _ (c .before .before .before .before .before .enter .result) _ _ (c .after-call .ensures) (c .before .sent-on-entry .ensures) (c .before .before .before .before .before .enter .ensures ∙ ap (λ (k : ℕ). enterSpec (a .h .session) (a .h .words) (a .view) (a .heads) k) (c .before .before .before .before .before .before .before .stores-of .ensures))
+returns c =
+    let a = c .before .before .before .before .before .before .before .before .before .before .args in
+    entry-is (a .h) _ _ (c .before .before .before .before .before .enter .result) _ _ (c .after-call .ensures) (c .before .sent-on-entry .ensures) (c .before .before .before .before .before .enter .ensures ∙ ap (λ (k : ℕ). enterSpec (a .h .session) (a .h .words) (a .view) (a .heads) k) (c .before .before .before .before .before .before .before .stores-of .ensures))
 
 pub enters-spec : {M : Type 1} → statement M
 enters-spec =

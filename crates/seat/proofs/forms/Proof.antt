@@ -38,7 +38,9 @@ after-call-requires c κs = search needs
 
 returns : tie.Need-returns
 unfolding forms formation storesOf
-returns c = let a = c .before .before .before .before .before .before .before .before .before .before .before .before .before .before .args in form-is (a .h) _ _ (c .before .before .before .before .before .before .before .form .result) _ _ (c .after-call .ensures) (c .before .before .before .newly .ensures ∙ ap₂ newly (c .before .before .before .before .before .before .before .before .before .primary .ensures) (c .before .before .before .before .primary2 .ensures)) (c .before .before .before .before .before .before .before .form .ensures ∙ ap (λ (k : ℕ). formSpec (a .h .session) (a .h .words) k) (c .before .before .before .before .before .before .before .before .before .before .before .stores-of .ensures))
+returns c =
+    let a = c .before .before .before .before .before .before .before .before .before .before .before .before .before .before .args in
+    form-is (a .h) _ _ (c .before .before .before .before .before .before .before .form .result) _ _ (c .after-call .ensures) (c .before .before .before .newly .ensures ∙ ap₂ newly (c .before .before .before .before .before .before .before .before .before .primary .ensures) (c .before .before .before .before .primary2 .ensures)) (c .before .before .before .before .before .before .before .form .ensures ∙ ap (λ (k : ℕ). formSpec (a .h .session) (a .h .words) k) (c .before .before .before .before .before .before .before .before .before .before .before .stores-of .ensures))
 
 pub forms-spec : {M : Type 1} → statement M
 forms-spec =

@@ -26,7 +26,9 @@ after-call-requires c κs = search needs
 
 returns : tie.Need-returns
 unfolding recovers storesOf
-returns c = let a = c .before .before .before .before .before .before .before .before .args in recovery-is (a .h) _ _ (c .before .before .before .before .recover .result) _ _ (c .after-call .ensures) (c .before .none .ensures) (c .before .before .before .before .recover .ensures ∙ ap (λ (k : ℕ). recoverSpec (a .h .words) k) (c .before .before .before .before .before .before .stores-of .ensures))
+returns c =
+    let a = c .before .before .before .before .before .before .before .before .args in
+    recovery-is (a .h) _ _ (c .before .before .before .before .recover .result) _ _ (c .after-call .ensures) (c .before .none .ensures) (c .before .before .before .before .recover .ensures ∙ ap (λ (k : ℕ). recoverSpec (a .h .words) k) (c .before .before .before .before .before .before .stores-of .ensures))
 
 pub recovers-spec : {M : Type 1} → statement M
 recovers-spec =

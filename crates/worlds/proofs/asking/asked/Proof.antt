@@ -33,11 +33,15 @@ line-end-requires c κs = search needs
 
 add-order-for : tie.Need-add-order-for
 unfolding left
-add-order-for c = let a = c .before .before .before .before .before .before .before .before .args in omega (arith, c .line-end .ensures, line-end-le (left (a .s .now) (a .w)), length-left (a .s .now) (a .w) (c .before .before .before .before .before .before .before .before .pre .3))
+add-order-for c =
+    let a = c .before .before .before .before .before .before .before .before .args in
+    omega (arith, c .line-end .ensures, line-end-le (left (a .s .now) (a .w)), length-left (a .s .now) (a .w) (c .before .before .before .before .before .before .before .before .pre .3))
 
 add-order-for-2 : tie.Need-add-order-for-2
 unfolding left
-add-order-for-2 c = let a = c .before .before .before .before .before .before .before .before .args in omega (arith, c .line-end .ensures, line-end-le (left (a .s .now) (a .w)), length-left (a .s .now) (a .w) (c .before .before .before .before .before .before .before .before .pre .3))
+add-order-for-2 c =
+    let a = c .before .before .before .before .before .before .before .before .args in
+    omega (arith, c .line-end .ensures, line-end-le (left (a .s .now) (a .w)), length-left (a .s .now) (a .w) (c .before .before .before .before .before .before .before .before .pre .3))
 
 order-for-requires : tie.Need-order-for-requires
 order-for-requires c κs = search needs

@@ -20,7 +20,9 @@ read-event-requires : tie.Need-read-event-requires
 read-event-requires c κs = search needs
 
 returns : tie.Need-returns
-returns c = let s = c .before .before .before .before .before .args .s .now in c .read-event .ensures ∙ ap (λ (k : ℕ). eventOf (take k s)) (c .before .before .before .line-end .ensures) ∙ sym (event-first s (omega arith))
+returns c =
+    let s = c .before .before .before .before .before .args .s .now in
+    c .read-event .ensures ∙ ap (λ (k : ℕ). eventOf (take k s)) (c .before .before .before .line-end .ensures) ∙ sym (event-first s (omega arith))
 
 returns-2 : tie.Need-returns-2
 returns-2 c = sym (no-event-first (c .before .before .before .args .s .now) (omega arith))

@@ -32,7 +32,9 @@ same-length c = search needs
 
 returns : tie.Need-returns
 unfolding sessionLine common
-returns c = let s = c .before .before .before .before .before .before .before .before .before .before .before .before .before .before .before .before .before .before .before .before .before .args in (omega arith, put-five (take (s .at) (s .out .now)) (70 ∷ []) (headsText (s .w)) (field (s .w / 65536)) (headsText (common (heads (s .w)) (heads (s .before)))) (10 ∷ []) (c .before .before .before .before .before .before .before .before .before .before .before .before .before .before .before .before .before .before .put .ensures .1) (c .before .before .before .before .before .before .before .before .before .before .before .before .before .before .put-heads .ensures .1) (c .before .before .before .before .before .before .before .before .before .before .put-field .ensures .1) (c .before .before .before .before .before .before .put-heads2 .ensures .1) (c .before .before .put2 .ensures .1))
+returns c =
+    let s = c .before .before .before .before .before .before .before .before .before .before .before .before .before .before .before .before .before .before .before .before .before .args in
+    (omega arith, put-five (take (s .at) (s .out .now)) (70 ∷ []) (headsText (s .w)) (field (s .w / 65536)) (headsText (common (heads (s .w)) (heads (s .before)))) (10 ∷ []) (c .before .before .before .before .before .before .before .before .before .before .before .before .before .before .before .before .before .before .put .ensures .1) (c .before .before .before .before .before .before .before .before .before .before .before .before .before .before .put-heads .ensures .1) (c .before .before .before .before .before .before .before .before .before .before .put-field .ensures .1) (c .before .before .before .before .before .before .put-heads2 .ensures .1) (c .before .before .put2 .ensures .1))
 
 pub put-session-spec : {M : Type 1} → statement M
 put-session-spec =

@@ -16,7 +16,9 @@ abbrev μ-loop : tie.MeasureT-loop
 μ-loop formed n out₀ at end₀ before₀ i₀ out end before i = n - i
 
 loop-holds : tie.Need-loop-holds Inv-loop μ-loop
-loop-holds c = let a = c .before .before .args in (omega arith, refl, omega arith, before-none (a .formed .now), lines-none (take (a .at) (a .out .now)) (a .formed .now))
+loop-holds c =
+    let a = c .before .before .args in
+    (omega arith, refl, omega arith, before-none (a .formed .now), lines-none (take (a .at) (a .out .now)) (a .formed .now))
 
 mul-put-session : tie.Need-mul-put-session Inv-loop μ-loop
 mul-put-session c = omega arith
@@ -40,13 +42,20 @@ loop-less : tie.Need-loop-less Inv-loop μ-loop
 loop-less c = omega arith
 
 loop-again : tie.Need-loop-again Inv-loop μ-loop
-loop-again c = let v = c .before .before .before .before .before .before .before .loop .inv in let a = c .before .before .before .before .before .before .before .before .before .before .args in (omega arith, omega (arith, v .1), omega arith, before-again (a .formed .now) (c .before .before .before .before .before .before .before .loop .i) _ refl, lines-again (take (a .at) (a .out .now)) (a .formed .now) _ _ (c .before .before .before .before .before .before .before .loop .i) _ _ (omega arith) (v .3) refl (v .4) (c .before .before .before .put-session .ensures .1))
+loop-again c =
+    let v = c .before .before .before .before .before .before .before .loop .inv in
+    let a = c .before .before .before .before .before .before .before .before .before .before .args in
+    (omega arith, omega (arith, v .1), omega arith, before-again (a .formed .now) (c .before .before .before .before .before .before .before .loop .i) _ refl, lines-again (take (a .at) (a .out .now)) (a .formed .now) _ _ (c .before .before .before .before .before .before .before .loop .i) _ _ (omega arith) (v .3) refl (v .4) (c .before .before .before .put-session .ensures .1))
 
 same-length : tie.Need-same-length Inv-loop μ-loop
 same-length c = c .before .loop .inv .1
 
 returns : tie.Need-returns Inv-loop μ-loop
-returns c = let v = c .before .loop .inv in let a = c .before .before .before .before .args in let e : c .before .loop .i ≡ a .n = omega arith in (omega (arith, e), v .4 ∙ ap (λ (k : ℕ). take (a .at) (a .out .now) ++ closing (take k (a .formed .now))) e)
+returns c =
+    let v = c .before .loop .inv in
+    let a = c .before .before .before .before .args in
+    let e : c .before .loop .i ≡ a .n = omega arith in
+    (omega (arith, e), v .4 ∙ ap (λ (k : ℕ). take (a .at) (a .out .now) ++ closing (take k (a .formed .now))) e)
 
 pub put-sessions-spec : {M : Type 1} → statement M
 put-sessions-spec =
