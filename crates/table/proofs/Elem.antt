@@ -14,7 +14,6 @@ use denote.RattleType.{RattleType}
 use denote.Laws.{Is, Tells, Makes, Lawful}
 use denote.Memory.{mem}
 use denote.Slice.{Room}
-use denote.Enum.Laws as EL
 use denote.Struct.Laws as LL
 use Rattle.seat.specs.declared.Deed.{Deed}
 use Rattle.seat.specs.declared.Next.{Next}
@@ -28,8 +27,6 @@ use Rattle.seat.proofs.Next as n₁
 use Rattle.seat.proofs.Next.Laws as n₂
 use Rattle.seat.proofs.Seat as T
 use Rattle.seat.proofs.Seat.Laws as T′
-use Rattle.seat.proofs.What as q₁
-use Rattle.seat.proofs.What.Laws as q₂
 use Rattle.worlds.proofs.Order as o₁
 use Rattle.worlds.proofs.Order.Laws as o₂
 use Rattle.worlds.proofs.World as w₁
@@ -68,28 +65,12 @@ place-fits n i room l = let h : n * size < 2 ^ 63 = room .1 in omega arith
 pub size-fits : size < 2 ^ 64
 size-fits = omega arith
 
--- ---- what a head is to do
-abbrev pub Rq : RattleType
-Rq = q₁.the-row
-
-abbrev pub what-val : What → Val
-what-val = EL.val q₁.the-type q₂.the-laws
-
-pub what-makes : {M : Type 1} (𝓤 : URA M) (H : Heap 𝓤) (A : Atoms 𝓤) → Makes 𝓤 H A Rq (Is Rq)
-what-makes 𝓤 H A = EL.makes q₁.the-type q₂.the-plain 𝓤 H A
-
 -- ---- deed
 abbrev pub Rd : RattleType
 Rd = d₁.the-row
 
-abbrev pub deed-mir : Ty
-deed-mir = d₂.mir
-
 abbrev pub deed-val : Deed → Val
 deed-val = LL.val d₁.the-type d₂.the-laws
-
-pub deed-tells : Tells Rd (Is Rd) (λ x. deed-val x ∷ [])
-deed-tells = LL.tells d₁.the-type d₂.the-laws
 
 pub deed-typed : {M : Type 1} (𝓤 : URA M) (H : Heap 𝓤) (A : Atoms 𝓤) (W : Given 𝓤 H A) (x : Deed) (v : Val) → Is Rd x (v ∷ []) → Holds (hasTy d₂.mir v) × WT v
 deed-typed 𝓤 H A W x v is = LL.lawful d₁.the-type d₂.the-laws 𝓤 H A W .typed x (v ∷ []) is .0
@@ -112,9 +93,6 @@ next-tells = LL.tells n₁.the-type n₂.the-laws
 
 pub next-typed : {M : Type 1} (𝓤 : URA M) (H : Heap 𝓤) (A : Atoms 𝓤) (W : Given 𝓤 H A) (x : Next) (v : Val) → Is Rn x (v ∷ []) → Holds (hasTy n₂.mir v) × WT v
 next-typed 𝓤 H A W x v is = LL.lawful n₁.the-type n₂.the-laws 𝓤 H A W .typed x (v ∷ []) is .0
-
-pub next-makes : {M : Type 1} (𝓤 : URA M) (H : Heap 𝓤) (A : Atoms 𝓤) → Makes 𝓤 H A Rn (Is Rn)
-next-makes 𝓤 H A = LL.makes n₁.the-type n₂.the-plain 𝓤 H A
 
 -- ---- order
 abbrev pub Ro : RattleType
@@ -160,9 +138,3 @@ next-seat n v is = LL.owed n₁.the-type n₂.the-laws n (v ∷ []) is .0
 
 pub next-deed : (n : Next) (v : Val) → Is Rn n (v ∷ []) → Is Rd (n .deed) (deed-val (n .deed) ∷ [])
 next-deed n v is = LL.owed n₁.the-type n₂.the-laws n (v ∷ []) is .1 .0
-
-pub order-fits : (o : Order) (v : Val) → Is Ro o (v ∷ []) → (o .to < 2 ^ 64) × (o .from < 2 ^ 64)
-order-fits o v is = let fields = LL.owed o₁.the-type o₂.the-laws o (v ∷ []) is in (fields .0 .1, fields .1 .0 .1)
-
-pub order-what : (o : Order) (v : Val) → Is Ro o (v ∷ []) → Is Rq (o .what) (what-val (o .what) ∷ [])
-order-what o v is = LL.owed o₁.the-type o₂.the-laws o (v ∷ []) is .1 .1 .1 .0

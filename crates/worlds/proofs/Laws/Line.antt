@@ -1,14 +1,14 @@
 -- The next line of what is left, its event, and what is left after it.
-use mathlib.Core.Bool.{Bool, true, false, cond, _&&_}
+use mathlib.Core.Bool.{Bool, cond, _&&_}
 use mathlib.Core.List.{List, [], _∷_}
 use mathlib.Core.Logic.{⊎-elim}
-use mathlib.Core.Path.{_≡_, refl, sym, ap, ap₂, _∙_}
+use mathlib.Core.Path.{_≡_, sym, ap, ap₂, _∙_}
 use Prim.Native.Nat.{ℕ, zero, suc, _+_, _-_, _≤_, _<_}
 use native.Mathlib.Omega.{arith}
 use borrow.Author.Tests.{leb-true, lt-ltb, le-ltb}
 use lib.Dec.{eqb, leb, ltb}
 use lib.ListN.{length, take, drop, length-drop}
-use lib.Seq.{length-take-le, drop-drop, take-take, take-all, take-nil}
+use lib.Seq.{length-take-le, drop-drop, take-all, take-nil}
 use Rattle.loops.proofs.Laws.Order.{lt-or-ge}
 use Rattle.loops.proofs.Laws.Truth.{cond-elim}
 use Rattle.loops.specs.Below.{every}

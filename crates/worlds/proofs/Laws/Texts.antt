@@ -1,12 +1,11 @@
 -- A text put one character at a time, and the sessions' lines put one after the other.
 use mathlib.Core.List.{List, [], _∷_, _++_, append-assoc, append-nil}
 use mathlib.Core.Path.{_≡_, refl, sym, ap, _∙_}
-use Prim.Native.Nat.{ℕ, zero, suc, _+_, _≤_, _<_, _%_}
+use Prim.Native.Nat.{ℕ, zero, suc, _+_, _≤_, _<_}
 use native.Mathlib.Nat.{add-zero}
 use native.Mathlib.Numerals.{add-one}
 use native.Mathlib.Omega.{arith}
 use borrow.Author.Tests.{lt-ltb, le-ltb}
-use lib.Bits.{bitAnd}
 use lib.ListN.{length, getD, take, set}
 use lib.Seq.{take-suc, take-suc-set}
 use Rattle.group.specs.declared.answers.Answer.{Answer}
@@ -16,10 +15,8 @@ use Rattle.group.specs.Answers.{said, refusalNumber}
 use Rattle.seat.specs.declared.Reply.{Reply}
 use Rattle.seat.specs.Played.{told}
 use Rattle.stream.proofs.Laws.Put.{put-two, put-three}
-use Rattle.stream.specs.Shown.{field, headsText}
+use Rattle.stream.specs.Shown.{field}
 use Rattle.text.specs.Text.{decimal, digits}
-use Rattle.group.specs.Heads.{common}
-use Rattle.group.specs.Words.{heads}
 use Rattle.worlds.specs.Texts.{sessionLine, sessionLines, closing, saidText, toldText, refusedText, lastText}
 
 -- ---- a text
@@ -90,10 +87,6 @@ refused-text o x k a why e p f = f ∙ ap (λ (n : ℕ). o ++ refusedText n) p �
 
 pub put-five : (o a b d e g : List ℕ) {u v w x y : List ℕ} → u ≡ o ++ a → v ≡ u ++ b → w ≡ v ++ d → x ≡ w ++ e → y ≡ x ++ g → y ≡ o ++ (a ++ b ++ d ++ e ++ g)
 put-five o a b d e g p q r s t = put-two o (a ++ b ++ d ++ e) g (put-two o (a ++ b ++ d) e (put-three o a b d p q r) s) t
-
-pub shared-is : (w b : ℕ) → headsText (bitAnd (w % 65536) (b % 65536)) ≡ headsText (common (heads w) (heads b))
-unfolding common
-shared-is w b = refl
 
 -- ---- the last line and the sessions
 

@@ -4,7 +4,7 @@ use mathlib.Core.Bool.{Bool, true, false, cond, _||_}
 use mathlib.Core.List.{List, [], _++_, append-nil}
 use mathlib.Core.Logic.{⊎-elim}
 use mathlib.Core.Path.{_≡_, refl, sym, ap, ap₂, _∙_}
-use Prim.Native.Nat.{ℕ, zero, suc, _+_, _-_, _≤_, _<_}
+use Prim.Native.Nat.{ℕ, zero, suc, _-_, _≤_, _<_}
 use native.Mathlib.Numerals.{add-one}
 use native.Mathlib.Omega.{arith}
 use borrow.Author.Tests.{lt-ltb, le-ltb}
@@ -87,21 +87,20 @@ record Rest (x y : World) : Type 0 where
   stop : y .stop ≡ x .stop
   end : y .end ≡ x .end
   turns : y .turns ≡ x .turns
-  views-in : y .views ≤ x .views + 1
   starting : y .starting ≤ 16
 
 kept-rest : (a : What) (x : World) → x .starting ≤ 16 → Rest x (keptBy a x)
-kept-rest (what.Refuse n) x h = record { at = refl; stop = refl; end = refl; turns = refl; views-in = omega arith; starting = h }
-kept-rest (what.Announce v m) x h = record { at = refl; stop = refl; end = refl; turns = refl; views-in = omega arith; starting = h }
-kept-rest (what.Open core least) x h = record { at = refl; stop = refl; end = refl; turns = refl; views-in = omega arith; starting = omega arith }
-kept-rest (what.Start core least) x h = record { at = refl; stop = refl; end = refl; turns = refl; views-in = omega arith; starting = h }
-kept-rest (what.Enter view m) x h = record { at = refl; stop = refl; end = refl; turns = refl; views-in = omega arith; starting = h }
-kept-rest (what.HearState k) x h = record { at = refl; stop = refl; end = refl; turns = refl; views-in = omega arith; starting = h }
-kept-rest (what.HearAttempt k) x h = record { at = refl; stop = refl; end = refl; turns = refl; views-in = omega arith; starting = h }
-kept-rest what.Decide x h = record { at = refl; stop = refl; end = refl; turns = refl; views-in = omega arith; starting = h }
-kept-rest what.Form x h = record { at = refl; stop = refl; end = refl; turns = refl; views-in = omega arith; starting = h }
-kept-rest what.Recover x h = record { at = refl; stop = refl; end = refl; turns = refl; views-in = omega arith; starting = h }
-kept-rest (what.Arm k) x h = record { at = refl; stop = refl; end = refl; turns = refl; views-in = omega arith; starting = h }
+kept-rest (what.Refuse n) x h = record { at = refl; stop = refl; end = refl; turns = refl; starting = h }
+kept-rest (what.Announce v m) x h = record { at = refl; stop = refl; end = refl; turns = refl; starting = h }
+kept-rest (what.Open core least) x h = record { at = refl; stop = refl; end = refl; turns = refl; starting = omega arith }
+kept-rest (what.Start core least) x h = record { at = refl; stop = refl; end = refl; turns = refl; starting = h }
+kept-rest (what.Enter view m) x h = record { at = refl; stop = refl; end = refl; turns = refl; starting = h }
+kept-rest (what.HearState k) x h = record { at = refl; stop = refl; end = refl; turns = refl; starting = h }
+kept-rest (what.HearAttempt k) x h = record { at = refl; stop = refl; end = refl; turns = refl; starting = h }
+kept-rest what.Decide x h = record { at = refl; stop = refl; end = refl; turns = refl; starting = h }
+kept-rest what.Form x h = record { at = refl; stop = refl; end = refl; turns = refl; starting = h }
+kept-rest what.Recover x h = record { at = refl; stop = refl; end = refl; turns = refl; starting = h }
+kept-rest (what.Arm k) x h = record { at = refl; stop = refl; end = refl; turns = refl; starting = h }
 
 -- the views in use stay within the room
 kept-room : (a : What) (x : World) → x .views ≤ 1000 → ((v m : ℕ) → a ≡ what.Announce v m → x .views < 1000) → keptBy a x .views ≤ 1000
