@@ -1,3 +1,4 @@
+-- What is held is moved to the start before the read, which only writes behind it; after the read the lines up to the last newline end.
 use mathlib.Core.Path.{_≡_}
 use Prim.Native.Nat.{_+_, _-_, _≤_}
 use lib.ListN.{length}
