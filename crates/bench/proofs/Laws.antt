@@ -1,17 +1,19 @@
 -- What the program's loop keeps, from read to read.
 use mathlib.Core.List.{List, [], _∷_, _++_}
-use mathlib.Core.Path.{_≡_, refl, sym, ap, _∙_}
+use mathlib.Core.Path.{_≡_, refl, sym, ap, subst, _∙_}
 use Prim.Native.Nat.{ℕ, zero, suc, _-_, _≤_, _<_}
 use native.Mathlib.Omega.{arith}
-use lib.ListN.{length, getD, take, drop}
-use lib.Seq.{take-suc, take-all, take-take}
-use borrow.Author.Tests.{lt-ltb, le-ltb}
+use lib.ListN.{length, getD, take, drop, take-append-drop}
+use lib.Seq.{take-suc, take-all, take-take, slice, slice-empty, slice-cons}
+use borrow.Author.Tests.{lt-ltb, le-ltb, ne-eqb}
 use Rattle.loops.proofs.Laws.Order.{lt-or-ge}
 use lib.Dec.{ltb}
 use mathlib.Core.Bool.{cond}
 use mathlib.Core.Logic.{⊎-elim}
+use Rattle.lines.specs.Hex.{lineEnd}
 use Rattle.lines.specs.Walk.{begun}
-use Rattle.lines.proofs.Laws.Walk.{begun-append}
+use Rattle.lines.proofs.Laws.Walk.{begun-append, none-whole}
+use Rattle.stream.proofs.Laws.Parts.{NoEnd, none-nil}
 use Rattle.seat.specs.declared.Seat.{Seat}
 use Rattle.worlds.specs.declared.World.{World}
 use Rattle.worlds.specs.Desk.{left, Ready, SamePart}
@@ -100,6 +102,31 @@ pub ends-none : (l : List ℕ) → begun [] (take 0 l) ≡ []
 unfolding begun
 ends-none l = refl
 
+-- no newline stands from place i up to n
+pub none-from-end : (l : List ℕ) (n : ℕ) → NoEnd (slice n n l)
+none-from-end l n = rw (slice-empty n l) none-nil
+
+none-cons : (b : ℕ) (p : List ℕ) → (b ≡ 10 → ⊥) → NoEnd p → NoEnd (b ∷ p)
+unfolding lineEnd
+none-cons b p d h = rw (ne-eqb b 10 d) (omega (arith, h))
+
+pub none-before : (l : List ℕ) (i n : ℕ) → 0 < i → i ≤ n → n ≤ length l → (getD l (i - 1) 0 ≡ 10 → ⊥) → NoEnd (slice i n l) → NoEnd (slice (i - 1) n l)
+none-before l i n pos le fits d h =
+    let k : suc (i - 1) ≡ i = omega arith in
+    let h′ : NoEnd (slice (suc (i - 1)) n l) = rw k h in
+    rw (slice-cons (i - 1) n l 0 (omega arith) fits) (none-cons (getD l (i - 1) 0) (slice (suc (i - 1)) n l) d h′)
+
+-- where the lines up to place i end and no newline follows, the rest is the line that is begun
+pub rest-begun : (l : List ℕ) (i n : ℕ) → i ≤ n → begun [] (take i l) ≡ [] → NoEnd (slice i n l) → begun [] (take n l) ≡ drop i (take n l)
+rest-begun l i n le ends none =
+    ap (begun []) (sym (take-append-drop i (take n l)))
+    ∙ begun-append [] (take i (take n l)) (drop i (take n l))
+    ∙ ap (λ (p : List ℕ). begun p (drop i (take n l))) (ap (begun []) (take-take i n l le) ∙ ends)
+    ∙ none-whole [] (drop i (take n l)) none .all
+
+pub rest-all : (l : List ℕ) (i n : ℕ) → i ≡ 0 → NoEnd (slice i n l) → begun [] (take n l) ≡ drop 0 (take n l)
+rest-all l i n z h = rest-begun l 0 n (omega arith) (ends-none l) (subst (λ (k : ℕ). NoEnd (slice k n l)) z h)
+
 -- ---- what is held
 
 length-take-most : (n : ℕ) (l : List ℕ) → length (take n l) ≤ n
@@ -131,9 +158,10 @@ same-read w r stop end turns e = record {
   least = ap (λ (x : World). x .least) e;
 }
 
-pub filled-by : (old bs : List ℕ) (w r : World) (stop end turns : ℕ) → take (heldCount w) bs ≡ heldIn old w → heldCount w ≤ end → r ≡ atRead w stop end turns → stop ≤ end → end ≤ 8192 → turns < w .turns → begun [] (take stop bs) ≡ [] → Filled old bs w r
+pub filled-by : (old bs : List ℕ) (w r : World) (stop end turns : ℕ) → take (heldCount w) bs ≡ heldIn old w → heldCount w ≤ end → r ≡ atRead w stop end turns → stop ≤ end → end ≤ 8192 → turns < w .turns → begun [] (take stop bs) ≡ []
+    → (0 < turns → begun [] (take end bs) ≡ drop stop (take end bs)) → Filled old bs w r
 unfolding atRead
-filled-by old bs w r stop end turns kept more e le fits fewer ends = record {
+filled-by old bs w r stop end turns kept more e le fits fewer ends rest = record {
   kept = kept;
   more = omega (arith, ap (λ (x : World). x .end) e, more);
   same = same-read w r stop end turns e;
@@ -142,6 +170,9 @@ filled-by old bs w r stop end turns kept more e le fits fewer ends = record {
   stop = omega (arith, ap (λ (x : World). x .stop) e, ap (λ (x : World). x .end) e, le);
   end = omega (arith, ap (λ (x : World). x .end) e, fits);
   ends = ap (λ (x : World). begun [] (take (x .stop) bs)) e ∙ ends;
+  rest = λ more.
+      ap (λ (x : World). begun [] (take (x .end) bs)) e ∙ rest (omega (arith, ap (λ (x : World). x .turns) e, more))
+      ∙ sym (ap (λ (x : World). drop (x .stop) (take (x .end) bs)) e);
   fewer = omega (arith, ap (λ (x : World). x .turns) e, fewer);
 }
 

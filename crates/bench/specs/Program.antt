@@ -48,6 +48,8 @@ pub record Filled (old buf : List ℕ) (w r : World) : Type 0 where
   pub stop : r .stop ≤ r .end
   pub end : r .end ≤ 8192
   pub ends : begun [] (take (r .stop) buf) ≡ []
+  -- what stands behind them is the line that is begun; at the end of the input all that was held is
+  pub rest : 0 < r .turns → begun [] (take (r .end) buf) ≡ drop (r .stop) (take (r .end) buf)
   pub fewer : r .turns < w .turns
 
 -- after a write: the same, or no read is left to make

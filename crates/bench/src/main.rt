@@ -9,7 +9,7 @@ use worlds::close;
 ghost use mathlib.Core.Path.{_≡_};
 ghost use mathlib.Core.List.{[]};
 ghost use Prim.Native.Nat.{_+_, _≤_, _<_};
-ghost use lib.ListN.{length, take};
+ghost use lib.ListN.{length, take, drop};
 ghost use Rattle.lines.specs.Walk.{begun};
 ghost use Rattle.bench.specs.Program.{firstWorld, atRead, heldCount, Between, Filled, Later};
 
@@ -61,7 +61,7 @@ fn first_world() -> World
 // The end of the last whole line among the first n bytes.
 fn last_end(buf: &[u8], n: usize) -> usize
     requires { ⌜ n ≤ length (now buf) ⌝ }
-    ensures { λ r. ⌜ (r ≤ n) × (begun [] (take r (now (buf .entry))) ≡ []) ⌝ }
+    ensures { λ r. ⌜ (r ≤ n) × (begun [] (take r (now (buf .entry))) ≡ []) × (begun [] (take n (now (buf .entry))) ≡ drop r (take n (now (buf .entry)))) ⌝ }
 {
     let mut i = n;
     while 0 < i {

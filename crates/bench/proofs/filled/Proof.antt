@@ -41,7 +41,7 @@ returns c =
     let h = c .before .before .before .before .before .before .before .before .before .before .held-of in
     let m = c .before .before .before .before .before .before .before .before .keep .last .0 in
     let g : h .result ≡ heldCount (s .args .w) = h .ensures .0 in
-    filled-by (s .args .buf .now) _ (s .args .w) _ _ _ _ (held-stays (s .args .buf .now) m _ (s .args .w) (h .result) g (c .before .before .before .before .before .before .before .before .keep .ensures) (take-put (h .result) (length m - h .result) m (c .before .before .before .before .read .last .1 .0) (omega (arith, h .ensures .2, s .pre .0 .long)))) (omega (arith, g)) (c .at-read .ensures) (omega arith) (omega (arith, h .ensures .2)) (omega arith) (ends-none [])
+    filled-by (s .args .buf .now) _ (s .args .w) _ _ _ _ (held-stays (s .args .buf .now) m _ (s .args .w) (h .result) g (c .before .before .before .before .before .before .before .before .keep .ensures) (take-put (h .result) (length m - h .result) m (c .before .before .before .before .read .last .1 .0) (omega (arith, h .ensures .2, s .pre .0 .long)))) (omega (arith, g)) (c .at-read .ensures) (omega arith) (omega (arith, h .ensures .2)) (omega arith) (ends-none []) (λ l. absurd (omega (arith, l)))
 
 sub-count : tie.Need-sub-count
 sub-count c = search needs
@@ -76,7 +76,7 @@ returns-2 c =
     let h = c .before .before .before .before .before .before .before .before .before .before .before .before .before .before .before .before .held-of in
     let m = c .before .before .before .before .before .before .before .before .before .before .before .before .before .before .keep .last .0 in
     let g : h .result ≡ heldCount (s .args .w) = h .ensures .0 in
-    filled-by (s .args .buf .now) _ (s .args .w) _ _ _ _ (held-stays (s .args .buf .now) m _ (s .args .w) (h .result) g (c .before .before .before .before .before .before .before .before .before .before .before .before .before .before .keep .ensures) (take-put (h .result) (length m - h .result) m (c .before .before .before .before .before .before .before .before .before .before .read .last .1 .0) (omega (arith, h .ensures .2, s .pre .0 .long, part-read-start (c .before .before .before .before .before .before .before .before .before .before .before .before))))) (let e : heldCount (s .args .w) ≤ h .result + c .before .before .before .before .count .result = omega (arith, g) in e) (c .at-read2 .ensures) (c .before .before .last-end .ensures .0) (omega (arith, s .pre .0 .long, last-end-requires (c .before .before .before) (c .before .before .last-end .lifetimes), same-length-2 c)) (omega arith) (c .before .before .last-end .ensures .1)
+    filled-by (s .args .buf .now) _ (s .args .w) _ _ _ _ (held-stays (s .args .buf .now) m _ (s .args .w) (h .result) g (c .before .before .before .before .before .before .before .before .before .before .before .before .before .before .keep .ensures) (take-put (h .result) (length m - h .result) m (c .before .before .before .before .before .before .before .before .before .before .read .last .1 .0) (omega (arith, h .ensures .2, s .pre .0 .long, part-read-start (c .before .before .before .before .before .before .before .before .before .before .before .before))))) (let e : heldCount (s .args .w) ≤ h .result + c .before .before .before .before .count .result = omega (arith, g) in e) (c .at-read2 .ensures) (c .before .before .last-end .ensures .0) (omega (arith, s .pre .0 .long, last-end-requires (c .before .before .before) (c .before .before .last-end .lifetimes), same-length-2 c)) (omega arith) (c .before .before .last-end .ensures .1) (λ l. c .before .before .last-end .ensures .2)
 
 pub filled-spec : {M : Type 1} → statement M
 filled-spec =
