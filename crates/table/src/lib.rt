@@ -1,5 +1,6 @@
 // The sixteen heads of the bench stand in one lent table. Each function over the table is thin, and proved by a walk of its MIR, by hand; what a head does is a
 // function by value, which is covered.
+use group::Group;
 use seat::Deed;
 use seat::Next;
 use seat::Seat;
@@ -18,10 +19,10 @@ ghost use Rattle.worlds.specs.Desk.{benchOf, Ready, Turned, Fed};
 ghost use Rattle.table.specs.Acts.{Acted};
 
 // Sixteen heads before their group line.
-pub fn new_table() -> [Seat; 16]
+pub fn new_table() -> [Seat; Group::HEADS]
     ensures { λ r. ⌜ r ≡ replicate 16 emptySeat ⌝ }
 {
-    [empty_seat(); 16]
+    [empty_seat(); Group::HEADS]
 }
 
 // The head that an order is for, and the head that it hears: a walk does not look into an order.

@@ -3,6 +3,7 @@ use crate::Order;
 use crate::World;
 use events::Event;
 use events::read_event;
+use group::Group;
 use hex::line_end;
 use seat::What;
 ghost use mathlib.Core.Path.{_≡_};
@@ -156,7 +157,7 @@ fn start_order(w: World) -> Order
     requires { ⌜ (0 < w .starting) × (w .starting ≤ 16) ⌝ }
     ensures { λ r. ⌜ r ≡ startOrder w ⌝ }
 {
-    let p = 16 - w.starting;
+    let p = Group::HEADS - w.starting;
     Order {
         to: p,
         from: p,
