@@ -1,23 +1,26 @@
 // The calls, by value on the session: refusals first, then the stores or the line, then the next session.
 use crate::fits::usable;
-use crate::refusals::Check;
-use crate::refusals::attempt_check;
-use crate::refusals::decide_check;
-use crate::refusals::enter_check;
-use crate::refusals::form_check;
-use crate::refusals::state_check;
-use crate::refusals::write_attempt_check;
-use crate::refusals::write_state_check;
 use crate::session::Next;
 use crate::session::Session;
 use deciding::decide_stores;
 use deciding::form_stores;
+use fitting::stage::ATTEMPTED;
+use fitting::stage::CLOSED;
+use fitting::stage::FORMED;
 use group::Answer;
 use group::Refusal;
 use lines::Line;
 use reader::read_whole;
 use record::layout::own;
 use record::layout::put_entered;
+use refusals::Check;
+use refusals::attempt_check;
+use refusals::decide_check;
+use refusals::enter_check;
+use refusals::form_check;
+use refusals::state_check;
+use refusals::write_attempt_check;
+use refusals::write_state_check;
 use store::Pen;
 use telling::tell;
 use writer::write_attempt;
@@ -44,8 +47,8 @@ fn stage_after(answer: Answer) -> u8
     ensures { λ r. ⌜ (said answer ≡ attempted → r ≡ 3) × ((said answer ≡ attempted → ⊥) → r ≡ 2) ⌝ }
 {
     match answer {
-        Answer::Attempted => Session::ATTEMPTED,
-        _ => Session::CLOSED,
+        Answer::Attempted => ATTEMPTED,
+        _ => CLOSED,
     }
 }
 
@@ -53,7 +56,8 @@ impl Session {
     pub fn enter(self, rec: &mut [u64], view: u32, heads: u16, stores: u64) -> Next
         ensures { λ r. ⌜ ended (now (rec .exit)) r ≡ enterSpec self (now (rec .entry)) view heads stores ⌝ }
     {
-        let check = enter_check(self, rec, view, heads);
+        let fit = usable(self, rec);
+        let check = enter_check(fit, rec, view, heads);
         if let Check::Refused(why) = check {
             return Next {
                 answer: Answer::Refused(why),
@@ -92,7 +96,15 @@ impl Session {
                 session: self,
             };
         };
-        let check = state_check(self, rec, view, sender);
+        let check = state_check(
+            self.stage,
+            self.view,
+            self.members,
+            self.states,
+            own(rec),
+            view,
+            sender,
+        );
         if let Check::Refused(why) = check {
             return Next {
                 answer: Answer::Refused(why),
@@ -123,7 +135,15 @@ impl Session {
                 session: self,
             };
         };
-        let check = attempt_check(self, rec, view, sender);
+        let check = attempt_check(
+            self.stage,
+            self.view,
+            self.members,
+            self.attempts,
+            own(rec),
+            view,
+            sender,
+        );
         if let Check::Refused(why) = check {
             return Next {
                 answer: Answer::Refused(why),
@@ -139,7 +159,8 @@ impl Session {
     pub fn decide(self, rec: &mut [u64], stores: u64) -> Next
         ensures { λ r. ⌜ ended (now (rec .exit)) r ≡ decideSpec self (now (rec .entry)) stores ⌝ }
     {
-        let check = decide_check(self, rec);
+        let fit = usable(self, rec);
+        let check = decide_check(fit, self.stage, self.members, self.states);
         if let Check::Refused(why) = check {
             return Next {
                 answer: Answer::Refused(why),
@@ -168,7 +189,8 @@ impl Session {
     pub fn form(self, rec: &mut [u64], stores: u64) -> Next
         ensures { λ r. ⌜ ended (now (rec .exit)) r ≡ formSpec self (now (rec .entry)) stores ⌝ }
     {
-        let check = form_check(self, rec);
+        let fit = usable(self, rec);
+        let check = form_check(fit, self.stage, self.members, self.attempts);
         if let Check::Refused(why) = check {
             return Next {
                 answer: Answer::Refused(why),
@@ -186,14 +208,15 @@ impl Session {
         }
         Next {
             answer: Answer::Formed,
-            session: self.at_stage(Session::FORMED),
+            session: self.at_stage(FORMED),
         }
     }
 
     pub fn write_state(self, rec: &[u64], out: &mut [u8]) -> Next
         ensures { λ r. ⌜ wrote (now (out .exit)) r ≡ writeStateSpec self (now (rec .entry)) (now (out .entry)) ⌝ }
     {
-        let check = write_state_check(self, rec, out.len());
+        let fit = usable(self, rec);
+        let check = write_state_check(fit, self.stage, out.len());
         if let Check::Refused(why) = check {
             return Next {
                 answer: Answer::Refused(why),
@@ -212,7 +235,8 @@ impl Session {
     pub fn write_attempt(self, rec: &[u64], out: &mut [u8]) -> Next
         ensures { λ r. ⌜ wrote (now (out .exit)) r ≡ writeAttemptSpec self (now (rec .entry)) (now (out .entry)) ⌝ }
     {
-        let check = write_attempt_check(self, rec, out.len());
+        let fit = usable(self, rec);
+        let check = write_attempt_check(fit, self.stage, out.len());
         if let Check::Refused(why) = check {
             return Next {
                 answer: Answer::Refused(why),

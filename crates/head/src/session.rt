@@ -1,4 +1,6 @@
 // The session: what a head has heard in one view. Each call takes it by value and hands the next one back.
+use fitting::stage::NONE;
+use fitting::stage::UNDECIDED;
 use group::Answer;
 use group::heads::with_head;
 use state::Held;
@@ -36,22 +38,12 @@ fn only(h: usize) -> u16
 }
 
 impl Session {
-    pub const NONE: u8 = 0;
-
-    pub const UNDECIDED: u8 = 1;
-
-    pub const CLOSED: u8 = 2;
-
-    pub const ATTEMPTED: u8 = 3;
-
-    pub const FORMED: u8 = 4;
-
     pub fn none() -> Session
         ensures { λ r. ⌜ r ≡ noSession ⌝ }
     {
         let held = nothing_held();
         Session {
-            stage: Session::NONE,
+            stage: NONE,
             view: 0,
             members: 0,
             states: 0,
@@ -70,7 +62,7 @@ impl Session {
         let blank = no_state();
         held.of[own] = blank;
         Session {
-            stage: Session::NONE,
+            stage: NONE,
             view: 0,
             members: 0,
             states: 0,
@@ -87,7 +79,7 @@ impl Session {
         let held = nothing_held();
         let me = only(own);
         Session {
-            stage: Session::UNDECIDED,
+            stage: UNDECIDED,
             view: view,
             members: members,
             states: me,

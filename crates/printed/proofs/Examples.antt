@@ -28,7 +28,8 @@ use Rattle.plan.specs.Attempt.{numberOf, primaryOf, highestNumber, highestPrima
 use Rattle.plan.specs.Decide.{learning, afterC, decideProgram, decideAnswer}
 use Rattle.plan.specs.Form.{viewSession, formStep}
 use Rattle.head.specs.Session.{noSession, opened, withState, withAttempt, atStage}
-use Rattle.head.specs.Fits.{viewFits, heardFits, stateFits as stateFitsFits, heldFits, placed, stageFits, fits, usable}
+use Rattle.fitting.specs.Fits.{viewFits, heardFits, stateFits as stateFitsFits, placed, stageFits}
+use Rattle.head.specs.Fits.{heldFits, fits, usable}
 use Rattle.head.specs.Refusals.{enterRefusal, stateRefusal, hearStateRefusal, attemptRefusal, hearAttemptRefusal, decideRefusal, formRefusal, writeStateRefusal, writeAttemptRefusal}
 use Rattle.head.specs.Calls.{under, stores, entryStep, enterSpec, hearStateSpec, hearAttemptSpec, decidedStage, decideSpec, formSpec, writes, writeStateSpec, writeAttemptSpec}
 use Rattle.lines.specs.Walk.{linesOf, begun, wholeLines, lastLine}

@@ -1,14 +1,12 @@
 // The first refusal of each call, in document 01's order, over the numbers that it depends on. `fit` says that the record is whole and the session fits it.
-pub mod stage;
-
+use fitting::stage::CLOSED;
+use fitting::stage::FORMED;
+use fitting::stage::NONE;
+use fitting::stage::UNDECIDED;
 use group::Refusal;
 use group::heads::holds;
 use record::layout::entered;
 use record::layout::own;
-use stage::CLOSED;
-use stage::FORMED;
-use stage::NONE;
-use stage::UNDECIDED;
 use writer::ATTEMPT_ROOM;
 use writer::STATE_ROOM;
 ghost use mathlib.Core.Path.{_≡_};
@@ -170,7 +168,7 @@ pub fn write_attempt_check(fit: bool, stage: u8, room: usize) -> Check
     if stage == CLOSED {
         return Check::Refused(Refusal::Closed);
     }
-    if stage == UNDECIDED {
+    if stage <= UNDECIDED {
         return Check::Refused(Refusal::Undecided);
     }
     if room < ATTEMPT_ROOM {

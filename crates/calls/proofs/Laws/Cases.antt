@@ -30,7 +30,8 @@ use Rattle.plan.specs.Marks.{adding, markStep, marked, toMark}
 use Rattle.plan.specs.Members.{formedWith, other}
 use Rattle.head.specs.Calls.{decideSpec, decidedStage, enterSpec, entryStep, formSpec, formsChanges, hearAttemptSpec, hearStateSpec, stores, under, writeAttemptSpec, writeStateSpec, writes}
 use Rattle.calls.specs.Cases.{caseTable, decided0, decided1, decided2, expected, formed0, formed1, given, quorumRows, ready2, Row, Seen, TwelveCases}
-use Rattle.head.specs.Fits.{fits, heardFits, heldFits, placed, stageFits, stateFits as stateFits-of-fits, usable, viewFits}
+use Rattle.fitting.specs.Fits.{viewFits, heardFits, stateFits as stateFits-of-fits, placed, stageFits}
+use Rattle.head.specs.Fits.{heldFits, fits, usable}
 use Rattle.head.specs.Refusals.{attemptRefusal, decideRefusal, enterRefusal, formRefusal, hearAttemptRefusal, hearStateRefusal, stateRefusal, writeAttemptRefusal, writeStateRefusal}
 use Rattle.head.specs.Session.{atStage, noSession, opened, withAttempt, withState}
 

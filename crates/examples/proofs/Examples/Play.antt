@@ -35,7 +35,8 @@ use Rattle.plan.specs.Attempt.{numberOf, primaryOf, highestNumber, highestPrima
 use Rattle.plan.specs.Decide.{learning, afterC, decideProgram, decideAnswer, decideChanges}
 use Rattle.plan.specs.Form.{viewSession, formStep, formChanges}
 use Rattle.head.specs.Session.{noSession, opened, withState, withAttempt, atStage}
-use Rattle.head.specs.Fits.{viewFits, heardFits, stateFits as stateFitsFits, heldFits, placed, stageFits, fits, usable}
+use Rattle.fitting.specs.Fits.{viewFits, heardFits, stateFits as stateFitsFits, placed, stageFits}
+use Rattle.head.specs.Fits.{heldFits, fits, usable}
 use Rattle.head.specs.Refusals.{enterRefusal, stateRefusal, hearStateRefusal, attemptRefusal, hearAttemptRefusal, decideRefusal, formRefusal, writeStateRefusal, writeAttemptRefusal}
 use Rattle.head.specs.Calls.{under, stores, entryStep, enterSpec, hearStateSpec, hearAttemptSpec, decidedStage, decideSpec, formSpec, writes, writeStateSpec, writeAttemptSpec, enterChanges, decidesChanges, formsChanges}
 use Rattle.lines.specs.declared.Line.{Line}

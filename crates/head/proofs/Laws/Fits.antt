@@ -20,7 +20,8 @@ use Rattle.state.specs.declared.State.{State}
 use Rattle.plan.specs.Members.{heldOf}
 use Rattle.plan.specs.Form.{viewSession}
 use Rattle.head.specs.declared.session.Session.{Session}
-use Rattle.head.specs.Fits.{viewFits, heardFits, stateFits, heldFits, placed, stageFits, fits, usable}
+use Rattle.fitting.specs.Fits.{viewFits, heardFits, stateFits, placed, stageFits}
+use Rattle.head.specs.Fits.{heldFits, fits, usable}
 
 pub usable-whole : (s : Session) (r : List ℕ) → usable s r ≡ true → whole r ≡ true
 unfolding usable
@@ -50,7 +51,7 @@ pub record Fitting (s : Session) (r : List ℕ) : Type 0 where
   pub kept : (q : ℕ) → q < 16 → has (s .states) q ≡ true → (q ≡ own r → ⊥) → keepsRules (heldOf (s .held) q) q ≡ true
   pub staged : s .stage ≤ 4
   pub decided : 1 < s .stage → s .states ≡ s .members
-  pub attempted : s .stage ≡ 3 → placed s r ≡ true
+  pub attempted : s .stage ≡ 3 → placed (s .members) r ≡ true
   pub formed : s .stage ≡ 4 → primary r ≡ viewSession (s .members) r
   pub heard-all : s .stage ≡ 4 → s .attempts ≡ s .members
 
@@ -74,10 +75,10 @@ module _ (s : Session) (r : List ℕ) where
   pub fits-parts : fits s r ≡ true → (s .stage ≡ 0 → ⊥) → Fitting s r
   unfolding fits viewFits heardFits heldFits stageFits
   fits-parts e some =
-      let v = viewFits s r in
-      let h = heardFits s r in
+      let v = viewFits (s .view) (s .members) r in
+      let h = heardFits (s .members) (s .states) (s .attempts) r in
       let k = allBelow 16 (heldFits s r) in
-      let g = stageFits s r in
+      let g = stageFits (s .stage) (s .members) (s .states) (s .attempts) r in
       let t = unless (eqb (s .stage) 0) (v && h && k && g) e (ne-eqb (s .stage) 0 some) in
       let vhk = and-left (v && h && k) g t in
       let vh = and-left (v && h) k vhk in
@@ -96,7 +97,7 @@ module _ (s : Session) (r : List ℕ) where
       let th₂ = and-left (h₁ && h₂) h₃ th₃ in
       let g₁ = leb (s .stage) 4 in
       let g₂ = leb (s .stage) 1 || eqb (s .states) (s .members) in
-      let g₃ = not (eqb (s .stage) 3) || placed s r in
+      let g₃ = not (eqb (s .stage) 3) || placed (s .members) r in
       let p = eqb (primary r) (viewSession (s .members) r) in
       let a = eqb (s .attempts) (s .members) in
       let g₄ = not (eqb (s .stage) 4) || (p && a) in
@@ -114,7 +115,7 @@ module _ (s : Session) (r : List ℕ) where
         kept = λ q l. state-kept (s .states) (own r) q (heldOf (s .held) q) (all-at 16 _ (and-right (v && h) k vhk) q l);
         staged = leb-true _ _ (and-left g₁ g₂ tg₂);
         decided = λ l. eqb-true _ _ (unless (leb (s .stage) 1) _ (and-right g₁ g₂ tg₂) (lt-leb (s .stage) 1 l));
-        attempted = λ z. unless (not (eqb (s .stage) 3)) (placed s r) (and-right (g₁ && g₂) g₃ tg₃) (ap not (eq-eqb (s .stage) 3 z));
+        attempted = λ z. unless (not (eqb (s .stage) 3)) (placed (s .members) r) (and-right (g₁ && g₂) g₃ tg₃) (ap not (eq-eqb (s .stage) 3 z));
         formed = λ z. eqb-true _ _ (and-left p a (final z));
         heard-all = λ z. eqb-true _ _ (and-right p a (final z));
       }

@@ -17,6 +17,8 @@ use Rattle.lines.specs.Reading.{readWhole}
 use Rattle.lines.specs.Theorems.{KeptLine, HeadKept, StateKept}
 use Rattle.lines.proofs.Laws.Theorems.{whole-keeps}
 use Rattle.lines.proofs.Line.{the-type}
+use Rattle.record.specs.Layout.{own}
+use Rattle.refusals.specs.Refusals.{stateRefused, attemptRefused}
 use Rattle.head.specs.declared.session.Session.{Session}
 use Rattle.head.specs.Session.{withState, withAttempt}
 use Rattle.head.specs.Fits.{usable}
@@ -44,6 +46,17 @@ no-attempt-line : (s : Session) (r : List ℕ) (l : Line) → OneOf (0 ∷ 2 ∷
 no-attempt-line s r (StateLine v x) h = refl
 no-attempt-line s r (AttemptLine v x) h = absurd (⊎-elim (λ e. omega arith) (λ e. omega arith) h)
 no-attempt-line s r (Broken k) h = refl
+
+-- ---- the check of the line's view and sender, made with own head as it was read from the record
+
+module _ (s : Session) (r : List ℕ) (v x me n : ℕ) where
+  pub state-judged : n ≡ stateRefused (s .stage) (s .view) (s .members) (s .states) me v x → me ≡ own r → n ≡ stateRefusal s r v x
+  unfolding stateRefusal
+  state-judged e o = rw (← o) e
+
+  pub attempt-judged : n ≡ attemptRefused (s .stage) (s .view) (s .members) (s .attempts) me v x → me ≡ own r → n ≡ attemptRefusal s r v x
+  unfolding attemptRefusal
+  attempt-judged e o = rw (← o) e
 
 module _ (s : Session) (r bytes : List ℕ) where
   -- ---- hear a state

@@ -1,7 +1,8 @@
 -- Refused, all stays; else plan's stores and answer are handed on, and the pen decides between cut and the session at its next stage.
 use mathlib.Core.Path.{_≡_, sym, ap, _∙_}
 use denote.Ref.{now}
-use Rattle.head.specs.Refusals.{checkNumber, decideRefusal}
+use Rattle.refusals.specs.Refusals.{checkNumber}
+use Rattle.head.specs.Refusals.{decideRefusal}
 use Rattle.head.proofs.Laws.Fits.{usable-length}
 use Rattle.head.proofs.Laws.Refusals.{may-decide}
 use Rattle.head.proofs.Laws.Calls.{under-cut, under-made, decide-refused, decide-done}
@@ -9,8 +10,15 @@ use borrow.Author.Needs.{needs}
 use Rattle.head.proofs.session.Session.decide.Statement.{statement}
 use Rattle.head.proofs.session.Session.decide.Tie as tie
 
-allowed : (c : tie.After-enum-told) → decideRefusal (c .before .before .before .before .before .args .self) (now (c .before .before .before .before .before .args .rec)) ≡ 0
-allowed c = sym (c .before .before .decide-check .ensures) ∙ ap checkNumber (c .enum-told .given .1)
+judged : (c : tie.After-decide-check) → checkNumber (c .decide-check .result) ≡ decideRefusal (c .before .before .before .before .args .self) (now (c .before .before .before .before .args .rec))
+unfolding decideRefusal
+judged c = rw (← (c .before .usable .ensures)) (c .decide-check .ensures)
+
+allowed : (c : tie.After-enum-told) → decideRefusal (c .before .before .before .before .before .before .args .self) (now (c .before .before .before .before .before .before .args .rec)) ≡ 0
+allowed c = sym (judged (c .before .before)) ∙ ap checkNumber (c .enum-told .given .1)
+
+usable-requires : tie.Need-usable-requires
+usable-requires c κs = search needs
 
 decide-check-requires : tie.Need-decide-check-requires
 decide-check-requires c κs = search needs
@@ -22,7 +30,7 @@ same-length : tie.Need-same-length
 same-length c = search needs
 
 returns : tie.Need-returns
-returns c = sym (decide-refused _ _ _ (c .before .check .given .0 .0) (ap checkNumber (sym (c .before .check .given .1)) ∙ c .before .before .before .decide-check .ensures))
+returns c = sym (decide-refused _ _ _ (c .before .check .given .0 .0) (ap checkNumber (sym (c .before .check .given .1)) ∙ judged (c .before .before .before)))
 
 enum-told : tie.Need-enum-told
 enum-told c = search needs
@@ -68,6 +76,7 @@ pub decide-spec : {M : Type 1} → statement M
 decide-spec =
     tie.close
     (tie.spec
+    usable-requires
     decide-check-requires
     enum-known-check
     same-length

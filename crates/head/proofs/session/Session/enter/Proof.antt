@@ -2,7 +2,8 @@
 use mathlib.Core.Path.{_≡_, sym, ap, _∙_}
 use denote.Ref.{now}
 use lib.ListN.{length}
-use Rattle.head.specs.Refusals.{checkNumber, enterRefusal}
+use Rattle.refusals.specs.Refusals.{checkNumber}
+use Rattle.head.specs.Refusals.{enterRefusal}
 use Rattle.head.proofs.Laws.Fits.{usable-length}
 use Rattle.head.proofs.Laws.Refusals.{may-enter}
 use Rattle.head.proofs.Laws.Calls.{under-cut, under-made, enter-refused, enter-done}
@@ -10,14 +11,21 @@ use borrow.Author.Needs.{needs}
 use Rattle.head.proofs.session.Session.enter.Statement.{statement}
 use Rattle.head.proofs.session.Session.enter.Tie as tie
 
-allowed : (c : tie.After-enum-told) → enterRefusal (c .before .before .before .before .before .args .self) (now (c .before .before .before .before .before .args .rec)) (c .before .before .before .before .before .args .view) (c .before .before .before .before .before .args .heads) ≡ 0
-allowed c = sym (c .before .before .enter-check .ensures) ∙ ap checkNumber (c .enum-told .given .1)
+judged : (c : tie.After-enter-check) → checkNumber (c .enter-check .result) ≡ enterRefusal (c .before .before .before .before .before .args .self) (now (c .before .before .before .before .before .args .rec)) (c .before .before .before .before .before .args .view) (c .before .before .before .before .before .args .heads)
+unfolding enterRefusal
+judged c = rw (← (c .before .before .usable .ensures)) (c .enter-check .ensures)
 
-long : (c : tie.After-enum-told) → length (now (c .before .before .before .before .before .args .rec)) ≡ 52
+allowed : (c : tie.After-enum-told) → enterRefusal (c .before .before .before .before .before .before .before .args .self) (now (c .before .before .before .before .before .before .before .args .rec)) (c .before .before .before .before .before .before .before .args .view) (c .before .before .before .before .before .before .before .args .heads) ≡ 0
+allowed c = sym (judged (c .before .before)) ∙ ap checkNumber (c .enum-told .given .1)
+
+long : (c : tie.After-enum-told) → length (now (c .before .before .before .before .before .before .before .args .rec)) ≡ 52
 long c = usable-length _ _ (may-enter _ _ _ _ (allowed c) .fit)
 
+usable-requires : tie.Need-usable-requires
+usable-requires c κs = search needs
+
 enter-check-requires : tie.Need-enter-check-requires
-enter-check-requires c κs = search needs
+enter-check-requires c κs e = usable-length _ _ (sym (c .before .usable .ensures) ∙ e)
 
 enum-known-check : tie.Need-enum-known-check
 enum-known-check c = search needs
@@ -26,7 +34,7 @@ same-length : tie.Need-same-length
 same-length c = search needs
 
 returns : tie.Need-returns
-returns c = sym (enter-refused _ _ _ _ _ (c .before .check .given .0 .0) (ap checkNumber (sym (c .before .check .given .1)) ∙ c .before .before .before .enter-check .ensures))
+returns c = sym (enter-refused _ _ _ _ _ (c .before .check .given .0 .0) (ap checkNumber (sym (c .before .check .given .1)) ∙ judged (c .before .before .before)))
 
 enum-told : tie.Need-enum-told
 enum-told c = search needs
@@ -65,6 +73,7 @@ pub enter-spec : {M : Type 1} → statement M
 enter-spec =
     tie.close
     (tie.spec
+    usable-requires
     enter-check-requires
     enum-known-check
     same-length

@@ -3,7 +3,8 @@ use mathlib.Core.Path.{_≡_, sym, ap, _∙_}
 use native.Mathlib.Omega.{arith}
 use denote.Ref.{now}
 use Rattle.record.proofs.Laws.Whole.{whole-parts}
-use Rattle.head.specs.Refusals.{checkNumber, formRefusal}
+use Rattle.refusals.specs.Refusals.{checkNumber}
+use Rattle.head.specs.Refusals.{formRefusal}
 use Rattle.head.proofs.Laws.Fits.{usable-length, usable-whole}
 use Rattle.head.proofs.Laws.Refusals.{may-form}
 use Rattle.head.proofs.Laws.Calls.{under-cut, under-made, form-refused, form-done}
@@ -11,8 +12,15 @@ use borrow.Author.Needs.{needs}
 use Rattle.head.proofs.session.Session.form.Statement.{statement}
 use Rattle.head.proofs.session.Session.form.Tie as tie
 
-allowed : (c : tie.After-enum-told) → formRefusal (c .before .before .before .before .before .args .self) (now (c .before .before .before .before .before .args .rec)) ≡ 0
-allowed c = sym (c .before .before .form-check .ensures) ∙ ap checkNumber (c .enum-told .given .1)
+judged : (c : tie.After-form-check) → checkNumber (c .form-check .result) ≡ formRefusal (c .before .before .before .before .args .self) (now (c .before .before .before .before .args .rec))
+unfolding formRefusal
+judged c = rw (← (c .before .usable .ensures)) (c .form-check .ensures)
+
+allowed : (c : tie.After-enum-told) → formRefusal (c .before .before .before .before .before .before .args .self) (now (c .before .before .before .before .before .before .args .rec)) ≡ 0
+allowed c = sym (judged (c .before .before)) ∙ ap checkNumber (c .enum-told .given .1)
+
+usable-requires : tie.Need-usable-requires
+usable-requires c κs = search needs
 
 form-check-requires : tie.Need-form-check-requires
 form-check-requires c κs = search needs
@@ -24,7 +32,7 @@ same-length : tie.Need-same-length
 same-length c = search needs
 
 returns : tie.Need-returns
-returns c = sym (form-refused _ _ _ (c .before .check .given .0 .0) (ap checkNumber (sym (c .before .check .given .1)) ∙ c .before .before .before .form-check .ensures))
+returns c = sym (form-refused _ _ _ (c .before .check .given .0 .0) (ap checkNumber (sym (c .before .check .given .1)) ∙ judged (c .before .before .before)))
 
 enum-told : tie.Need-enum-told
 enum-told c = search needs
@@ -65,6 +73,7 @@ pub form-spec : {M : Type 1} → statement M
 form-spec =
     tie.close
     (tie.spec
+    usable-requires
     form-check-requires
     enum-known-check
     same-length

@@ -1,5 +1,5 @@
 -- The record and session are judged, then the line, then its view and sender; a line that reads has a sender below 16.
-use Rattle.head.proofs.Laws.Hearing.{hear-state-line, state-kept, hear-state-record, hear-state-reads, hear-state-refused, hear-state-done}
+use Rattle.head.proofs.Laws.Hearing.{state-judged, hear-state-line, state-kept, hear-state-record, hear-state-reads, hear-state-refused, hear-state-done}
 use mathlib.Core.Bool.{true}
 use mathlib.Core.Path.{_≡_, sym, ap, _∙_}
 use denote.Ref.{now}
@@ -9,7 +9,8 @@ use Rattle.lines.specs.declared.Read.{Read}
 use Rattle.lines.specs.Reading.{readWhole}
 use Rattle.group.specs.declared.answers.Refusal.the-variants as refusal
 use Rattle.head.specs.Fits.{usable}
-use Rattle.head.specs.Refusals.{checkNumber, ofStateLine}
+use Rattle.refusals.specs.Refusals.{checkNumber}
+use Rattle.head.specs.Refusals.{ofStateLine}
 use Rattle.head.proofs.Laws.Fits.{usable-length}
 use borrow.Author.Needs.{needs}
 use Rattle.head.proofs.session.Session.hear_state.Statement.{statement}
@@ -37,23 +38,26 @@ enum-known-what c = search needs
 returns-2 : tie.Need-returns-2
 returns-2 c = sym (hear-state-refused _ _ _ refusal.Line (sym (hear-state-line _ _ _ (c .before .read-whole .result) (usable-at (c .before .before)) (c .before .read-whole .ensures) (c .match .keys2))))
 
+own-requires : tie.Need-own-requires
+own-requires c κs = usable-length _ _ (usable-at (c .before .before .before .before))
+
 state-check-requires : tie.Need-state-check-requires
-state-check-requires c κs = usable-length _ _ (usable-at (c .before .before .before .before))
+state-check-requires c κs = search needs
 
 enum-known-check : tie.Need-enum-known-check
 enum-known-check c = search needs
 
 returns-3 : tie.Need-returns-3
-returns-3 c = sym (hear-state-refused _ _ _ (c .before .check .given .0 .0) (ap checkNumber (sym (c .before .check .given .1)) ∙ c .before .before .before .state-check .ensures ∙ sym (hear-state-reads _ _ _ (usable-at (c .before .before .before .before .before .before .before .before)) ∙ ap (ofStateLine _ _) (kind-at (c .before .before .before .before)))))
+returns-3 c = sym (hear-state-refused _ _ _ (c .before .check .given .0 .0) (ap checkNumber (sym (c .before .check .given .1)) ∙ state-judged _ _ _ _ _ _ (c .before .before .before .state-check .ensures) (c .before .before .before .before .own .ensures .0) ∙ sym (hear-state-reads _ _ _ (usable-at (c .before .before .before .before .before .before .before .before .before)) ∙ ap (ofStateLine _ _) (kind-at (c .before .before .before .before .before)))))
 
 enum-told : tie.Need-enum-told
 enum-told c = search needs
 
 with-state-requires : tie.Need-with-state-requires
-with-state-requires c κs = state-kept _ _ _ (kind-at (c .before .before .before .before)) .head .sender
+with-state-requires c κs = state-kept _ _ _ (kind-at (c .before .before .before .before .before)) .head .sender
 
 returns-4 : tie.Need-returns-4
-returns-4 c = rw (c .with-state .ensures, c .before .before .before .before .before .before .before .before .read-whole .ensures) (sym (hear-state-done _ _ _ _ _ (usable-at (c .before .before .before .before .before .before .before .before .before)) (kind-at (c .before .before .before .before .before)) (sym (c .before .before .before .before .state-check .ensures) ∙ ap checkNumber (c .before .before .enum-told .given .1))))
+returns-4 c = rw (c .with-state .ensures, c .before .before .before .before .before .before .before .before .before .read-whole .ensures) (sym (hear-state-done _ _ _ _ _ (usable-at (c .before .before .before .before .before .before .before .before .before .before)) (kind-at (c .before .before .before .before .before .before)) (sym (state-judged _ _ _ _ _ _ (c .before .before .before .before .state-check .ensures) (c .before .before .before .before .before .own .ensures .0)) ∙ ap checkNumber (c .before .before .enum-told .given .1))))
 
 pub hear-state-spec : {M : Type 1} → statement M
 hear-state-spec =
@@ -64,6 +68,7 @@ hear-state-spec =
     read-whole-requires
     enum-known-what
     returns-2
+    own-requires
     state-check-requires
     enum-known-check
     returns-3

@@ -4,7 +4,8 @@ use mathlib.Core.Path.{_≡_, sym, ap, _∙_}
 use denote.Ref.{now}
 use lib.ListN.{length}
 use Rattle.head.specs.Fits.{usable}
-use Rattle.head.specs.Refusals.{checkNumber, writeStateRefusal}
+use Rattle.refusals.specs.Refusals.{checkNumber}
+use Rattle.head.specs.Refusals.{writeStateRefusal}
 use Rattle.head.proofs.Laws.Fits.{usable-length, usable-whole}
 use Rattle.head.proofs.Laws.Refusals.{may-write-state}
 use Rattle.head.proofs.Laws.Writing.{write-state-refused, write-state-done}
@@ -12,11 +13,18 @@ use borrow.Author.Needs.{needs}
 use Rattle.head.proofs.session.Session.write_state.Statement.{statement}
 use Rattle.head.proofs.session.Session.write_state.Tie as tie
 
-allowed : (c : tie.After-enum-told) → writeStateRefusal (c .before .before .before .before .before .args .self) (now (c .before .before .before .before .before .args .rec)) (length (now (c .before .before .before .before .before .args .out))) ≡ 0
-allowed c = sym (c .before .before .write-state-check .ensures) ∙ ap checkNumber (c .enum-told .given .1)
+judged : (c : tie.After-write-state-check) → checkNumber (c .write-state-check .result) ≡ writeStateRefusal (c .before .before .before .before .args .self) (now (c .before .before .before .before .args .rec)) (length (now (c .before .before .before .before .args .out)))
+unfolding writeStateRefusal
+judged c = rw (← (c .before .usable .ensures)) (c .write-state-check .ensures)
 
-fit : (c : tie.After-enum-told) → usable (c .before .before .before .before .before .args .self) (now (c .before .before .before .before .before .args .rec)) ≡ true
+allowed : (c : tie.After-enum-told) → writeStateRefusal (c .before .before .before .before .before .before .args .self) (now (c .before .before .before .before .before .before .args .rec)) (length (now (c .before .before .before .before .before .before .args .out))) ≡ 0
+allowed c = sym (judged (c .before .before)) ∙ ap checkNumber (c .enum-told .given .1)
+
+fit : (c : tie.After-enum-told) → usable (c .before .before .before .before .before .before .args .self) (now (c .before .before .before .before .before .before .args .rec)) ≡ true
 fit c = may-write-state _ _ _ (allowed c) .fit
+
+usable-requires : tie.Need-usable-requires
+usable-requires c κs = search needs
 
 write-state-check-requires : tie.Need-write-state-check-requires
 write-state-check-requires c κs = search needs
@@ -25,7 +33,7 @@ enum-known-check : tie.Need-enum-known-check
 enum-known-check c = search needs
 
 returns : tie.Need-returns
-returns c = sym (write-state-refused _ _ _ (c .before .check .given .0 .0) (ap checkNumber (sym (c .before .check .given .1)) ∙ c .before .before .before .write-state-check .ensures))
+returns c = sym (write-state-refused _ _ _ (c .before .check .given .0 .0) (ap checkNumber (sym (c .before .check .given .1)) ∙ judged (c .before .before .before)))
 
 enum-told : tie.Need-enum-told
 enum-told c = search needs
@@ -52,6 +60,7 @@ pub write-state-spec : {M : Type 1} → statement M
 write-state-spec =
     tie.close
     (tie.spec
+    usable-requires
     write-state-check-requires
     enum-known-check
     returns

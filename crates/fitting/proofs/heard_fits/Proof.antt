@@ -1,8 +1,8 @@
 -- The code tests what the definition tests, in its order.
-use Rattle.head.specs.Fits.{heardFits}
+use Rattle.fitting.specs.Fits.{heardFits}
 use borrow.Author.Needs.{needs}
-use Rattle.head.proofs.fits.heard_fits.Statement.{statement}
-use Rattle.head.proofs.fits.heard_fits.Tie as tie
+use Rattle.fitting.proofs.heard_fits.Statement.{statement}
+use Rattle.fitting.proofs.heard_fits.Tie as tie
 
 own-requires : tie.Need-own-requires
 own-requires c κs = search needs
@@ -24,7 +24,7 @@ holds-requires-2 c κs = search needs
 
 returns : tie.Need-returns
 unfolding heardFits
-returns c = cc
+returns c = rw (c .holds2 .ensures, c .before .holds .ensures, c .before .before .inside2 .ensures, c .before .before .before .inside .ensures, ← (c .before .before .before .before .own .ensures .0))
 
 pub heard-fits-spec : {M : Type 1} → statement M
 heard-fits-spec =

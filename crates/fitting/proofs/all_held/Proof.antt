@@ -6,9 +6,9 @@ use borrow.Author.Needs.{needs}
 use Rattle.loops.specs.Below.{allBelow}
 use Rattle.loops.proofs.Laws.Tests.{all-none, all-end, all-again}
 use Rattle.plan.specs.Members.{heldOf}
-use Rattle.head.specs.Fits.{stateFits}
-use Rattle.head.proofs.fits.all_held.Statement.{statement}
-use Rattle.head.proofs.fits.all_held.Tie as tie
+use Rattle.fitting.specs.Fits.{stateFits}
+use Rattle.fitting.proofs.all_held.Statement.{statement}
+use Rattle.fitting.proofs.all_held.Tie as tie
 
 abbrev Inv-loop : tie.InvT-loop
 Inv-loop states me held ok₀ q₀ ok q = (q ≤ 16) × (ok ≡ allBelow q (λ k. stateFits states me k (heldOf held k)))

@@ -1,10 +1,10 @@
 -- A head that was not heard, or own head, passes before its state is looked at.
 use Rattle.loops.proofs.Laws.Truth.{failed, passed}
 use borrow.Author.Tests.{eq-eqb, ne-eqb}
-use Rattle.head.specs.Fits.{stateFits}
+use Rattle.fitting.specs.Fits.{stateFits}
 use borrow.Author.Needs.{needs}
-use Rattle.head.proofs.fits.state_fits.Statement.{statement}
-use Rattle.head.proofs.fits.state_fits.Tie as tie
+use Rattle.fitting.proofs.state_fits.Statement.{statement}
+use Rattle.fitting.proofs.state_fits.Tie as tie
 
 cast-holds : tie.Need-cast-holds
 cast-holds c = search needs

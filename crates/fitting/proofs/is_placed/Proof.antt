@@ -7,8 +7,8 @@ use lib.Dec.{eqb}
 use Rattle.loops.specs.Below.{anyBelow}
 use Rattle.loops.proofs.Laws.Tests.{any-none, any-next, any-end}
 use Rattle.record.specs.Layout.{placeAt}
-use Rattle.head.proofs.fits.is_placed.Statement.{statement}
-use Rattle.head.proofs.fits.is_placed.Tie as tie
+use Rattle.fitting.proofs.is_placed.Statement.{statement}
+use Rattle.fitting.proofs.is_placed.Tie as tie
 
 abbrev Inv-loop : tie.InvT-loop
 Inv-loop w rec found₀ i₀ found i = (i ≤ 16) × (found ≡ anyBelow i (λ k. eqb (placeAt rec k) w))

@@ -1,11 +1,8 @@
 -- The code tests what the definition tests, in its order.
-use Rattle.head.specs.Fits.{viewFits}
+use Rattle.fitting.specs.Fits.{viewFits}
 use borrow.Author.Needs.{needs}
-use Rattle.head.proofs.fits.view_fits.Statement.{statement}
-use Rattle.head.proofs.fits.view_fits.Tie as tie
-
-cast-view : tie.Need-cast-view
-cast-view c = search needs
+use Rattle.fitting.proofs.view_fits.Statement.{statement}
+use Rattle.fitting.proofs.view_fits.Tie as tie
 
 entered-requires : tie.Need-entered-requires
 entered-requires c κs = search needs
@@ -21,8 +18,8 @@ holds-requires c κs = search needs
 
 returns : tie.Need-returns
 unfolding viewFits
-returns c = cc
+returns c = rw (c .before .before .entered .ensures, ← (c .before .own .ensures .0), c .holds .ensures)
 
 pub view-fits-spec : {M : Type 1} → statement M
 view-fits-spec =
-    tie.close (tie.spec cast-view entered-requires own-requires cast-holds holds-requires returns)
+    tie.close (tie.spec entered-requires own-requires cast-holds holds-requires returns)

@@ -1,9 +1,9 @@
 -- The code tests what the definition tests, with (M, word 2) read once.
 use Rattle.plan.specs.Form.{viewSession}
-use Rattle.head.specs.Fits.{placed, stageFits}
+use Rattle.fitting.specs.Fits.{placed, stageFits}
 use borrow.Author.Needs.{needs}
-use Rattle.head.proofs.fits.stage_fits.Statement.{statement}
-use Rattle.head.proofs.fits.stage_fits.Tie as tie
+use Rattle.fitting.proofs.stage_fits.Statement.{statement}
+use Rattle.fitting.proofs.stage_fits.Tie as tie
 
 number-requires : tie.Need-number-requires
 number-requires c κs = search needs
@@ -19,7 +19,7 @@ primary-requires c κs = search needs
 
 returns : tie.Need-returns
 unfolding stageFits placed viewSession
-returns c = rw (c .before .primary .ensures, c .before .before .is-placed .ensures, c .before .before .before .before .session-of .ensures, c .before .before .before .before .before .number .ensures)
+returns c = rw (c .primary .ensures, c .before .is-placed .ensures, c .before .before .session-of .ensures, c .before .before .before .number .ensures)
 
 pub stage-fits-spec : {M : Type 1} → statement M
 stage-fits-spec =
