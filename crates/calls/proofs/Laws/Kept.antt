@@ -197,7 +197,7 @@ module _ (s : Session) (r : List ℕ) (view x : ℕ) (f : Fitting s r) (z : Size
 -- ---- a session at another stage, and a record of the same group and view
 
 at-stage-fits : (s : Session) (r y : List ℕ) (n : ℕ) → Fitting s r → settings y ≡ settings r → entered y ≡ entered r → n ≤ 4
-    → s .states ≡ s .members → (n ≡ 3 → placed s y ≡ true) → (n ≡ 4 → (primary y ≡ viewSession (s .members) y) × (s .attempts ≡ s .members))
+    → s .states ≡ s .members → (n ≡ 3 → placed (s .members) y ≡ true) → (n ≡ 4 → (primary y ≡ viewSession (s .members) y) × (s .attempts ≡ s .members))
     → Fitting (atStage s n) y
 unfolding atStage placed
 at-stage-fits s r y n f g v l d a e =
