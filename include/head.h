@@ -164,15 +164,15 @@ struct head_session {
 
 /* What a call ends with. */
 struct head_end {
-    uint8_t code;
     struct head_session session;
+    uint8_t code;
 };
 
 /* The same of a call that writes a line. */
 struct head_line {
-    uint8_t code;
-    size_t length; /* of the line with its newline; 0 if none was written */
     struct head_session session;
+    size_t length; /* of the line with its newline; 0 if none was written */
+    uint8_t code;
 };
 
 /* A line that was read. */

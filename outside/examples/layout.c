@@ -29,12 +29,12 @@ int main(void)
     FIELD(head_session, attempts);
     FIELD(head_session, held);
     LAID_OUT(head_end);
-    FIELD(head_end, code);
     FIELD(head_end, session);
+    FIELD(head_end, code);
     LAID_OUT(head_line);
-    FIELD(head_line, code);
-    FIELD(head_line, length);
     FIELD(head_line, session);
+    FIELD(head_line, length);
+    FIELD(head_line, code);
     LAID_OUT(head_line_read);
     FIELD(head_line_read, kind);
     FIELD(head_line_read, rule);

@@ -7,17 +7,18 @@ ghost use mathlib.Core.Path.{_≡_};
 ghost use Rattle.head.specs.Calls.{enterSpec, hearStateSpec, hearAttemptSpec, decideSpec, formSpec, writeStateSpec, writeAttemptSpec};
 ghost use Rattle.ffi.specs.Ends.{coded, codedOf, lined, linedOf};
 
+// The session comes first: unused bytes before it would cost a copy of it.
 #[repr(C)]
 pub struct HeadEnd {
-    pub code: u8,
     pub session: Session,
+    pub code: u8,
 }
 
 #[repr(C)]
 pub struct HeadLine {
-    pub code: u8,
-    pub length: usize,
     pub session: Session,
+    pub length: usize,
+    pub code: u8,
 }
 
 #[no_mangle]

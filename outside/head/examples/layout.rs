@@ -24,7 +24,7 @@ macro_rules! laid_out {
 fn main() {
     laid_out!(State as "head_state": number, primary, formed, count, places);
     laid_out!(Session as "head_session": stage, view, members, states, attempts, held);
-    laid_out!(HeadEnd as "head_end": code, session);
-    laid_out!(HeadLine as "head_line": code, length, session);
+    laid_out!(HeadEnd as "head_end": session, code);
+    laid_out!(HeadLine as "head_line": session, length, code);
     laid_out!(LineRead as "head_line_read": kind, rule, sender, view, left, state);
 }

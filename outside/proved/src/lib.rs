@@ -32,17 +32,17 @@ pub struct Session {
 #[repr(C)]
 #[derive(Clone, Copy, Debug, PartialEq, Eq)]
 pub struct HeadEnd {
-    pub code: u8,
     pub session: Session,
+    pub code: u8,
 }
 
 /// The same of a call that writes a line, with the line's length.
 #[repr(C)]
 #[derive(Clone, Copy, Debug, PartialEq, Eq)]
 pub struct HeadLine {
-    pub code: u8,
-    pub length: usize,
     pub session: Session,
+    pub length: usize,
+    pub code: u8,
 }
 
 /// A line that was read. Kind 1 is a state, 2 an attempt, 0 a line that
