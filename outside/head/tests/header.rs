@@ -235,7 +235,7 @@ fn the_header_names_the_numbers_of_the_proved_source() {
     let mut source = arms(&codes, "Refusal::", "REFUSED_");
     source.extend(arms(&codes, "Answer::", ""));
     source.extend(arms(&codes, "Quorum::", "QUORUM_"));
-    source.extend(constants(&text("crates/head/src/session.rt"), "STAGE_"));
+    source.extend(constants(&text("crates/fitting/src/stage.rt"), "STAGE_"));
     source.extend(constants(&text("crates/writer/src/lib.rt"), ""));
     source.extend(constants(&text("crates/group/src/lib.rt"), ""));
     // The highest head: the header says 16 heads.
