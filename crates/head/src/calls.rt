@@ -31,7 +31,8 @@ ghost use Rattle.group.specs.Answers.{said, attempted, cut};
 ghost use Rattle.head.specs.Calls.{ended, enterSpec, hearStateSpec, hearAttemptSpec, decideSpec, formSpec, wrote, writeStateSpec, writeAttemptSpec};
 ghost use Rattle.head.specs.Session.{noSession};
 
-// What a call hands back that needed more stores than it had: cut, and no session.
+// What a call hands back that needed more stores than it had: cut, and no session. Decide and form put it in a local first: returned at once, it would keep
+// their result in memory, and the session of a call that is not cut would be copied once more.
 fn cut_off(own: usize) -> Next
     requires { ⌜ own < 16 ⌝ }
     ensures { λ r. ⌜ (said (r .answer) ≡ cut) × (r .session ≡ noSession) ⌝ }
@@ -178,7 +179,8 @@ impl Session {
         let after = decided.pen;
         let stage = stage_after(answer);
         if after.cut {
-            return cut_off(me);
+            let none = cut_off(me);
+            return none;
         }
         Next {
             answer: answer,
@@ -204,7 +206,8 @@ impl Session {
         };
         let after = form_stores(rec, pen, self.members);
         if after.cut {
-            return cut_off(me);
+            let none = cut_off(me);
+            return none;
         }
         Next {
             answer: Answer::Formed,
