@@ -80,6 +80,24 @@ saidText cut = cutText
 saidText (written n) = writtenText
 saidText (refused n) = refusedText n
 
+-- the words of all answers, one after the other, and where an answer's begins; a refusal has none
+unfoldable pub answerWords : List ℕ
+answerWords = startedText ++ recoveredText ++ enteredText ++ heardText ++ attemptedText ++ noQuorumText ++ runOutText ++ noPlaceText ++ formedText ++ writtenText ++ cutText
+
+abbrev pub wordAt : Said → ℕ
+wordAt started = 0
+wordAt recovered = 8
+wordAt entered = 18
+wordAt heard = 26
+wordAt attempted = 32
+wordAt no-quorum = 42
+wordAt numbers-run-out = 52
+wordAt no-place = 68
+wordAt formed = 77
+wordAt (written n) = 84
+wordAt cut = 92
+wordAt (refused n) = 0
+
 abbrev pub toldText : Told → List ℕ
 toldText (call a) = saidText a
 toldText announced = announcedText

@@ -1,13 +1,18 @@
 -- A text put one character at a time, and the sessions' lines put one after the other.
 use mathlib.Core.List.{List, [], _∷_, _++_, append-assoc, append-nil}
 use mathlib.Core.Path.{_≡_, refl, sym, ap, _∙_}
-use Prim.Native.Nat.{ℕ, zero, suc, _+_, _≤_, _<_}
+use Prim.Native.Nat.{ℕ, zero, suc, _+_, _-_, _≤_, _<_}
 use native.Mathlib.Nat.{add-zero}
 use native.Mathlib.Numerals.{add-one}
 use native.Mathlib.Omega.{arith}
 use borrow.Author.Tests.{lt-ltb, le-ltb}
-use lib.ListN.{length, getD, take, set}
-use lib.Seq.{take-suc, take-suc-set}
+use lib.ListN.{length, getD, take, drop, set, length-drop}
+use lib.Seq.{take-all, take-suc, take-suc-set, length-take-le}
+use denote.Enum.Declared.{tagOf}
+use types.Run.{OneOf, miss}
+use Rattle.lines.specs.Hex.{lineEnd}
+use Rattle.lines.specs.Walk.{firstOf}
+use Rattle.group.proofs.answers.Answer.{the-type}
 use Rattle.group.specs.declared.answers.Answer.{Answer}
 use Rattle.group.specs.declared.answers.Answer.the-variants as answer
 use Rattle.group.specs.declared.answers.Refusal.{Refusal}
@@ -17,7 +22,7 @@ use Rattle.seat.specs.Played.{told}
 use Rattle.stream.proofs.Laws.Put.{put-two, put-three}
 use Rattle.stream.specs.Shown.{field}
 use Rattle.text.specs.Text.{decimal, digits}
-use Rattle.worlds.specs.Texts.{sessionLine, sessionLines, closing, saidText, toldText, refusedText, lastText}
+use Rattle.worlds.specs.Texts.{startedText, recoveredText, enteredText, heardText, attemptedText, noQuorumText, runOutText, noPlaceText, formedText, writtenText, cutText, sessionLine, sessionLines, closing, saidText, answerWords, wordAt, toldText, refusedText, lastText}
 
 -- ---- a text
 
@@ -71,12 +76,59 @@ lines-again p L x y i b w h e f g k =
     ∙ ap (λ (z : List ℕ). p ++ z)
     (ap (λ (z : ℕ). sessionLines 0 (take i L) ++ sessionLine z w) e ∙ ap (λ (z : ℕ). sessionLines 0 (take i L) ++ sessionLine (beforeOf 0 i L) z) f ∙ sym (lines-snoc 0 i L h) ∙ ap (λ (n : ℕ). sessionLines 0 (take n L)) (sym (add-one i)))
 
+-- ---- a word among others
+
+module _ (w : List ℕ) (k e : ℕ) (ends : lineEnd (drop k w) < length (drop k w)) (is : e ≡ lineEnd (take (length w - k) (drop k w))) where
+  rest-all : take (length w - k) (drop k w) ≡ drop k w
+  rest-all = take-all (length w - k) (drop k w) (omega (arith, length-drop k w))
+
+  end-is : e ≡ lineEnd (drop k w)
+  end-is = is ∙ ap lineEnd rest-all
+
+  pub word-part : take (e + 1) (take (length w - k) (drop k w)) ≡ firstOf (drop k w)
+  unfolding firstOf
+  word-part = ap (λ (z : List ℕ). take (e + 1) z) rest-all ∙ ap (λ (n : ℕ). take n (drop k w)) (add-one e ∙ ap suc end-is)
+
+  pub word-count : e + 1 ≡ length (take (e + 1) (take (length w - k) (drop k w)))
+  word-count = sym (ap length (ap (λ (z : List ℕ). take (e + 1) z) rest-all) ∙ length-take-le (e + 1) (drop k w) (omega (arith, end-is, ends)))
+
+  pub word-fits : e + 1 ≤ length w
+  word-fits = omega (arith, end-is, ends, length-drop k w)
+
 -- ---- words
 
--- a word of at most 24 characters, for the answer and for the reply that it stands for
-pub answer-text : (r at : ℕ) (o x t : List ℕ) (a b : Answer) → a ≡ b → (r ≡ at + length t) × (x ≡ o ++ t) → length t ≤ 24 → t ≡ saidText (said b) → (r ≤ at + 24) × (x ≡ o ++ saidText (said a))
-answer-text r at o x t a b e f l g = (omega (arith, f .0, l), f .1 ∙ ap (λ (z : List ℕ). o ++ z) (g ∙ ap (λ (z : Answer). saidText (said z)) (sym e)))
+-- a word of an answer: it stands in the words of all answers, from its place up to its newline
+pub record Word (k : ℕ) (t : List ℕ) : Type 0 where
+  pub ends : lineEnd (drop k answerWords) < length (drop k answerWords)
+  pub is : firstOf (drop k answerWords) ≡ t
+  pub short : length t ≤ 24
 
+-- every answer but a refusal, which is the last of them, has one
+pub word-of : (a : Answer) → OneOf (0 ∷ 1 ∷ 2 ∷ 3 ∷ 4 ∷ 5 ∷ 6 ∷ 7 ∷ 8 ∷ 9 ∷ 10 ∷ []) (tagOf the-type a) → Word (wordAt (said a)) (saidText (said a))
+unfolding firstOf lineEnd answerWords startedText recoveredText enteredText heardText attemptedText noQuorumText runOutText noPlaceText formedText writtenText cutText
+word-of answer.Started h = record { ends = omega arith; is = refl; short = omega arith }
+word-of answer.Recovered h = record { ends = omega arith; is = refl; short = omega arith }
+word-of answer.Entered h = record { ends = omega arith; is = refl; short = omega arith }
+word-of answer.Heard h = record { ends = omega arith; is = refl; short = omega arith }
+word-of answer.Attempted h = record { ends = omega arith; is = refl; short = omega arith }
+word-of answer.NoQuorum h = record { ends = omega arith; is = refl; short = omega arith }
+word-of answer.NumbersRunOut h = record { ends = omega arith; is = refl; short = omega arith }
+word-of answer.NoPlace h = record { ends = omega arith; is = refl; short = omega arith }
+word-of answer.Formed h = record { ends = omega arith; is = refl; short = omega arith }
+word-of (answer.Written n) h = record { ends = omega arith; is = refl; short = omega arith }
+word-of answer.Cut h = record { ends = omega arith; is = refl; short = omega arith }
+word-of (answer.Refused why) h = absurd (miss (0 ∷ 1 ∷ 2 ∷ 3 ∷ 4 ∷ 5 ∷ 6 ∷ 7 ∷ 8 ∷ 9 ∷ 10 ∷ []) 11 tt h)
+
+module _ (a : Answer) (at k : ℕ) where
+  pub word-room : (n : ℕ) → OneOf (0 ∷ 1 ∷ 2 ∷ 3 ∷ 4 ∷ 5 ∷ 6 ∷ 7 ∷ 8 ∷ 9 ∷ 10 ∷ []) (tagOf the-type a) → k ≡ wordAt (said a) → at + 24 ≤ n
+      → (lineEnd (drop k answerWords) < length (drop k answerWords)) × (at + length (firstOf (drop k answerWords)) ≤ n)
+  word-room n h e f = let w = word-of a h in rw e (w .ends, omega (arith, ap length (w .is), w .short, f))
+
+  pub word-put : (r : ℕ) (o x : List ℕ) → OneOf (0 ∷ 1 ∷ 2 ∷ 3 ∷ 4 ∷ 5 ∷ 6 ∷ 7 ∷ 8 ∷ 9 ∷ 10 ∷ []) (tagOf the-type a) → k ≡ wordAt (said a)
+      → (r ≡ at + length (firstOf (drop k answerWords))) × (x ≡ o ++ firstOf (drop k answerWords)) → (r ≤ at + 24) × (x ≡ o ++ saidText (said a))
+  word-put r o x h e f = let w = word-of a h in let g = ap (λ (j : ℕ). firstOf (drop j answerWords)) e ∙ w .is in (omega (arith, f .0, ap length g, w .short), f .1 ∙ ap (λ (z : List ℕ). o ++ z) g)
+
+-- a word of at most 24 characters, for the reply that it stands for
 pub reply-text : (r at : ℕ) (o x t : List ℕ) (a b : Reply) → a ≡ b → (r ≡ at + length t) × (x ≡ o ++ t) → length t ≤ 24 → t ≡ toldText (told b) → (r ≤ at + 24) × (x ≡ o ++ toldText (told a))
 reply-text r at o x t a b e f l g = (omega (arith, f .0, l), f .1 ∙ ap (λ (z : List ℕ). o ++ z) (g ∙ ap (λ (z : Reply). toldText (told z)) (sym e)))
 
