@@ -15,8 +15,9 @@ use Rattle.lines.specs.Walk.{begun}
 use Rattle.lines.proofs.Laws.Walk.{begun-append, none-whole}
 use Rattle.stream.proofs.Laws.Parts.{NoEnd, none-nil}
 use Rattle.seat.specs.declared.Seat.{Seat}
-use Rattle.worlds.specs.declared.World.{World}
-use Rattle.worlds.specs.Desk.{left, Ready, SamePart}
+use Rattle.asking.specs.declared.World.{World}
+use Rattle.asking.specs.Asking.{left}
+use Rattle.worlds.specs.Desk.{Ready, SamePart}
 use Rattle.bench.specs.Program.{firstWorld, atRead, heldCount, heldIn, Between, Same, Filled, Later}
 
 pub record Calm (ts : List Seat) (vs fs bs os : List ℕ) (z : World) : Type 0 where

@@ -6,7 +6,7 @@ use Prim.Native.Nat.{ℕ, _-_, _≤_, _<_}
 use lib.Dec.{ltb}
 use lib.ListN.{length, take, drop}
 use Rattle.lines.specs.Walk.{begun}
-use Rattle.worlds.specs.declared.World.{World}
+use Rattle.asking.specs.declared.World.{World}
 
 -- nothing is read yet
 unfoldable pub firstWorld : World

@@ -1,11 +1,11 @@
-// Reads events on standard input and prints an answer for each, then the formed sessions. The work on bytes is in `worlds` and `table`.
+// Reads events on standard input and prints an answer for each, then the formed sessions. The work on bytes is in `table` and `noting`.
+use asking::World;
 use libc::STDIN_FILENO;
 use libc::STDOUT_FILENO;
+use noting::close;
 use stream::keep;
 use table::feed;
 use table::new_table;
-use worlds::World;
-use worlds::close;
 ghost use mathlib.Core.Path.{_≡_};
 ghost use mathlib.Core.List.{[]};
 ghost use Prim.Native.Nat.{_+_, _≤_, _<_};

@@ -23,7 +23,8 @@ use Rattle.head.specs.Calls.{Ended, ended, Wrote, wrote, hearStateSpec, hearAtt
 use Rattle.seat.specs.declared.Kept.{Kept}
 use Rattle.seat.specs.declared.Seat.{Seat}
 use Rattle.seat.specs.Seat.{noLine, emptySeat, chars, sentLine, pushed, stateSent, attemptSent, sentOnEntry, sentOnDecision, isLine, keptAt, lineOf}
-use Rattle.seat.specs.Played.{Played, call, newly, afterCall, afterStart, afterEntry, afterDecision, afterForm, afterRecovery, listened, doesNothing, hearsState, hearsAttempt}
+use Rattle.seat.specs.Played.{Played, newly, afterCall, afterStart, afterEntry, afterDecision, afterForm, afterRecovery, listened, doesNothing, hearsState, hearsAttempt}
+use Rattle.deeds.specs.Told.{call}
 
 -- ---- a head at rest
 

@@ -1,4 +1,7 @@
 // A head of the bench: its record, its session, the lines it sent last and a cut that waits; and what it does on an event, by value.
+use deeds::Deed;
+use deeds::Reply;
+use deeds::What;
 use group::Answer;
 use group::Group;
 use head::session::Session;
@@ -11,7 +14,8 @@ ghost use lib.ListN.{take};
 ghost use Rattle.group.specs.Answers.{said};
 ghost use Rattle.head.specs.Calls.{ended, hearStateSpec, hearAttemptSpec};
 ghost use Rattle.seat.specs.Seat.{noLine, emptySeat, storesFor, chars, pushed, stateSent, attemptSent, sentOnEntry, sentOnDecision, isLine, keptAt};
-ghost use Rattle.seat.specs.Played.{did, told, newly, afterCall, listened, doesNothing, starts, enters, hearsState, hearsAttempt, decides, forms, recovers, arms, playedBy};
+ghost use Rattle.seat.specs.Played.{did, newly, afterCall, listened, doesNothing, starts, enters, hearsState, hearsAttempt, decides, forms, recovers, arms, playedBy};
+ghost use Rattle.deeds.specs.Told.{told};
 
 // A line that was sent, of at most 419 characters; of none where no line is kept.
 pub struct Kept {
@@ -26,35 +30,6 @@ pub struct Seat {
     pub sent: [Kept; 4],
     pub armed: bool,
     pub stores: u64,
-}
-
-// What a head is to do. The first three are for the bench alone, and leave the head as it is.
-pub enum What {
-    Refuse { number: u8 },
-    Announce { number: u32, heads: u16 },
-    Open { core: u16, least: u8 },
-    Start { core: u16, least: u8 },
-    Enter { view: u32, heads: u16 },
-    HearState { which: u8 },
-    HearAttempt { which: u8 },
-    Decide,
-    Form,
-    Recover,
-    Arm { stores: u16 },
-}
-
-// What is printed for an event.
-pub enum Reply {
-    Refused(u8),
-    Announced,
-    Armed,
-    Head(Answer),
-}
-
-// What a head did: what is printed, and the session that it formed, 0 for none.
-pub struct Deed {
-    pub reply: Reply,
-    pub formed: u64,
 }
 
 pub struct Next {

@@ -45,7 +45,7 @@ use denote.Triple.Clauses.{ensured, lasts}
 use denote.Triple.Table.{entered, cited}
 use denote.Triple.Walked.{says, Stays, walkOf, Walks, ends-at, walked, walk-meets}
 use Rattle.seat.specs.declared.Seat.{Seat}
-use Rattle.worlds.specs.declared.World.{World}
+use Rattle.asking.specs.declared.World.{World}
 use Rattle.worlds.specs.Desk.{benchOf, Ready, Fed}
 use Rattle.bench.specs.Program.{firstWorld, Filled, Later}
 use Rattle.bench.proofs.Laws.{Calm, calm-first, calm-between, ready-now, put-fits, calm-after, fewer-after}
