@@ -1,2 +1,2 @@
--- The formed sessions, in order of number (document 02, Item 1).
+-- The formed sessions (document 02, Item 1).
 pub mod Formed

@@ -33,8 +33,10 @@ use Rattle.head.specs.Refusals.{enterRefusal, stateRefusal, hearStateRefusal, a
 use Rattle.head.specs.Calls.{under, stores, entryStep, enterSpec, hearStateSpec, hearAttemptSpec, decidedStage, decideSpec, formSpec, writes, writeStateSpec, writeAttemptSpec}
 use Rattle.lines.specs.Walk.{linesOf, begun, wholeLines, lastLine}
 use Rattle.events.specs.Events.{named, byteAt, starts, groupEvent, viewEvent, enterEvent, stateEvent, attemptEvent, decideEvent, formEvent, cutEvent, ofKind, eventOf}
-use Rattle.seat.specs.Seat.{blank, noLine, emptySeat, storesFor, storesOf, stateSent, attemptSent, pushed, keptAt, isLine}
-use Rattle.seat.specs.Played.{doesNothing, starts as startsSeat, afterCall, entry, enters, decision as decisionOf, decides, newly, formation, forms, listened, hearsState, hearsAttempt, arms, playedBy}
+use Rattle.keeping.specs.Keeping.{blank, noLine, storesFor, pushed, keptAt, isLine}
+use Rattle.seat.specs.Seat.{emptySeat, storesOf, stateSent, attemptSent}
+use Rattle.seat.specs.Played.{doesNothing, starts as startsSeat, afterCall, entry, enters, decision as decisionOf, decides, formation, forms, listened, hearsState, hearsAttempt, arms, playedBy}
+use Rattle.formed.specs.Formed.{newly}
 use Rattle.views.specs.Views.{viewIndex, announced, membersOf}
 use Rattle.formed.specs.Formed.{insert, noted}
 use Rattle.worlds.specs.Bench.{startLast, acts, obeyed, happens, taken, played, newBench}

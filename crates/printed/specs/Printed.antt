@@ -13,11 +13,12 @@ use Rattle.history.specs.Setting.{Setting}
 use Rattle.history.specs.Statement.{running, World, Call, enter, hear-state, hear-attempt, decide, form, recover, write-state, write-attempt, Event, start, call, empty, step, History, inOrder, Ordered}
 use Rattle.events.specs.declared.Event.{Event as Line}
 use Rattle.events.specs.declared.Event.the-variants as event
-use Rattle.seat.specs.declared.Kept.{Kept}
+use Rattle.keeping.specs.declared.Kept.{Kept}
 use Rattle.seat.specs.declared.Seat.{Seat}
 use Rattle.deeds.specs.declared.What.{What}
 use Rattle.deeds.specs.declared.What.the-variants as what
-use Rattle.seat.specs.Seat.{blank, emptySeat, storesOf, keptAt, isLine, lineOf}
+use Rattle.keeping.specs.Keeping.{blank, keptAt, isLine, lineOf}
+use Rattle.seat.specs.Seat.{emptySeat, storesOf}
 use Rattle.seat.specs.Played.{entry, decision}
 use Rattle.views.specs.Views.{membersOf}
 use Rattle.formed.specs.Formed.{insert, noted}

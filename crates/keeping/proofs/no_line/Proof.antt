@@ -1,8 +1,8 @@
 -- By the definition.
 use mathlib.Core.Path.{refl}
-use Rattle.seat.specs.Seat.{noLine, blank}
-use Rattle.seat.proofs.no_line.Statement.{statement}
-use Rattle.seat.proofs.no_line.Tie as tie
+use Rattle.keeping.specs.Keeping.{noLine, blank}
+use Rattle.keeping.proofs.no_line.Statement.{statement}
+use Rattle.keeping.proofs.no_line.Tie as tie
 
 returns : tie.Need-returns
 unfolding noLine blank

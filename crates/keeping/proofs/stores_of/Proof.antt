@@ -1,7 +1,7 @@
 -- By the test.
-use Rattle.seat.specs.Seat.{storesFor}
-use Rattle.seat.proofs.stores_of.Statement.{statement}
-use Rattle.seat.proofs.stores_of.Tie as tie
+use Rattle.keeping.specs.Keeping.{storesFor}
+use Rattle.keeping.proofs.stores_of.Statement.{statement}
+use Rattle.keeping.proofs.stores_of.Tie as tie
 
 returns : tie.Need-returns
 unfolding storesFor

@@ -1,8 +1,8 @@
 -- By the definition.
 use mathlib.Core.Path.{refl}
-use Rattle.seat.specs.Seat.{isLine}
-use Rattle.seat.proofs.is_line.Statement.{statement}
-use Rattle.seat.proofs.is_line.Tie as tie
+use Rattle.keeping.specs.Keeping.{isLine}
+use Rattle.keeping.proofs.is_line.Statement.{statement}
+use Rattle.keeping.proofs.is_line.Tie as tie
 
 returns : tie.Need-returns
 unfolding isLine

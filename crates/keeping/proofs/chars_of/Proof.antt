@@ -1,8 +1,8 @@
 -- By the answer: only a written line has characters.
-use Rattle.seat.proofs.Laws.{no-chars}
+use Rattle.keeping.proofs.Laws.{no-chars}
 use borrow.Author.Needs.{needs}
-use Rattle.seat.proofs.chars_of.Statement.{statement}
-use Rattle.seat.proofs.chars_of.Tie as tie
+use Rattle.keeping.proofs.chars_of.Statement.{statement}
+use Rattle.keeping.proofs.chars_of.Tie as tie
 
 enum-known-answer : tie.Need-enum-known-answer
 enum-known-answer c = search needs

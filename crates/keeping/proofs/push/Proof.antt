@@ -1,9 +1,9 @@
 -- The first three of four move up by one.
 use native.Mathlib.Omega.{arith}
-use Rattle.seat.proofs.Laws.{push-is}
+use Rattle.keeping.proofs.Laws.{push-is}
 use borrow.Author.Needs.{needs}
-use Rattle.seat.proofs.push.Statement.{statement}
-use Rattle.seat.proofs.push.Tie as tie
+use Rattle.keeping.proofs.push.Statement.{statement}
+use Rattle.keeping.proofs.push.Tie as tie
 
 array-copy-out-a : tie.Need-array-copy-out-a
 array-copy-out-a c = search needs

@@ -1,9 +1,9 @@
 -- By the test.
 use borrow.Author.Tests.{le-leb, lt-leb}
-use Rattle.seat.specs.Seat.{keptAt}
+use Rattle.keeping.specs.Keeping.{keptAt}
 use borrow.Author.Needs.{needs}
-use Rattle.seat.proofs.kept_at.Statement.{statement}
-use Rattle.seat.proofs.kept_at.Tie as tie
+use Rattle.keeping.proofs.kept_at.Statement.{statement}
+use Rattle.keeping.proofs.kept_at.Tie as tie
 
 no-line-requires : tie.Need-no-line-requires
 no-line-requires c κs = search needs
@@ -20,7 +20,7 @@ array-copy-out-result c = search needs
 
 returns-2 : tie.Need-returns-2
 unfolding keptAt
-returns-2 c = rw (le-leb _ _ (c .before .before .if1 .left))
+returns-2 c = rw (le-leb _ _ (c .before .if1 .left))
 
 pub kept-at-spec : {M : Type 1} → statement M
 kept-at-spec =
