@@ -2,10 +2,10 @@
 use mathlib.Core.Path.{refl, sym}
 use lib.Seq.{length-take-le}
 use native.Mathlib.Omega.{arith}
-use Rattle.bench.proofs.Laws.{later-same}
+use Rattle.reading.proofs.Laws.{later-same}
 use borrow.Author.Needs.{needs}
-use Rattle.bench.proofs.sent.Statement.{statement}
-use Rattle.bench.proofs.sent.Tie as tie
+use Rattle.reading.proofs.sent.Statement.{statement}
+use Rattle.reading.proofs.sent.Tie as tie
 
 slice-aggregate-write-all : tie.Need-slice-aggregate-write-all
 slice-aggregate-write-all c = sym (length-take-le _ _ (omega arith))

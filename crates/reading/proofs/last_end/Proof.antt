@@ -4,9 +4,9 @@ use native.Mathlib.Omega.{arith}
 use Prim.Native.Nat.{_≤_}
 use lib.Seq.{slice}
 use Rattle.stream.proofs.Laws.Parts.{NoEnd}
-use Rattle.bench.proofs.Laws.{ends-there, ends-none, none-from-end, none-before, rest-begun, rest-all}
-use Rattle.bench.proofs.last_end.Statement.{statement}
-use Rattle.bench.proofs.last_end.Tie as tie
+use Rattle.reading.proofs.Laws.{ends-there, ends-none, none-from-end, none-before, rest-begun, rest-all}
+use Rattle.reading.proofs.last_end.Statement.{statement}
+use Rattle.reading.proofs.last_end.Tie as tie
 
 abbrev Inv-loop : tie.InvT-loop
 Inv-loop buf n i₀ i = (i ≤ n) × NoEnd (slice i n buf)

@@ -1,10 +1,10 @@
 -- By the test.
 use native.Mathlib.Omega.{arith}
 use borrow.Author.Tests.{lt-ltb, le-ltb}
-use Rattle.bench.specs.Program.{heldCount}
+use Rattle.reading.specs.Reading.{heldCount}
 use borrow.Author.Needs.{needs}
-use Rattle.bench.proofs.held_of.Statement.{statement}
-use Rattle.bench.proofs.held_of.Tie as tie
+use Rattle.reading.proofs.held_of.Statement.{statement}
+use Rattle.reading.proofs.held_of.Tie as tie
 
 sub-n : tie.Need-sub-n
 sub-n c = search needs

@@ -2,14 +2,14 @@
 use mathlib.Core.Path.{_≡_}
 use Prim.Native.Nat.{_+_, _-_, _≤_}
 use lib.ListN.{length}
-use Rattle.bench.specs.Program.{heldCount}
+use Rattle.reading.specs.Reading.{heldCount}
 use borrow.Rule.Slice.PartMut.{take-put}
-use Rattle.bench.proofs.Laws.{held-stays, filled-by, ends-none}
+use Rattle.reading.proofs.Laws.{held-stays, filled-by, ends-none}
 use mathlib.Core.List.{[]}
 use native.Mathlib.Omega.{arith}
 use borrow.Author.Needs.{needs}
-use Rattle.bench.proofs.filled.Statement.{statement}
-use Rattle.bench.proofs.filled.Tie as tie
+use Rattle.reading.proofs.filled.Statement.{statement}
+use Rattle.reading.proofs.filled.Tie as tie
 
 held-of-requires : tie.Need-held-of-requires
 held-of-requires c κs = search needs

@@ -1,8 +1,8 @@
 -- By the definition.
 use mathlib.Core.Path.{refl}
-use Rattle.bench.specs.Program.{firstWorld}
-use Rattle.bench.proofs.first_world.Statement.{statement}
-use Rattle.bench.proofs.first_world.Tie as tie
+use Rattle.reading.specs.Reading.{firstWorld}
+use Rattle.reading.proofs.first_world.Statement.{statement}
+use Rattle.reading.proofs.first_world.Tie as tie
 
 returns : tie.Need-returns
 unfolding firstWorld

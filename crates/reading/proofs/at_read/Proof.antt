@@ -1,8 +1,8 @@
 -- By the definition.
 use mathlib.Core.Path.{refl}
-use Rattle.bench.specs.Program.{atRead}
-use Rattle.bench.proofs.at_read.Statement.{statement}
-use Rattle.bench.proofs.at_read.Tie as tie
+use Rattle.reading.specs.Reading.{atRead}
+use Rattle.reading.proofs.at_read.Statement.{statement}
+use Rattle.reading.proofs.at_read.Tie as tie
 
 returns : tie.Need-returns
 unfolding atRead
