@@ -18,8 +18,8 @@ use Rattle.group.proofs.answers.Answer.{the-type}
 use Rattle.lines.specs.Hex.{lineEnd}
 use Rattle.lines.specs.Walk.{firstOf}
 use Rattle.text.specs.Text.{decimal, digits}
-use Rattle.stream.specs.Shown.{field}
-use Rattle.stream.proofs.Laws.Put.{put-two, put-three}
+use Rattle.shown.specs.Shown.{field}
+use Rattle.shown.proofs.Laws.{put-two, put-three}
 use Rattle.deeds.specs.declared.Reply.{Reply}
 use Rattle.deeds.specs.Told.{told}
 use Rattle.printing.specs.Texts.{startedText, recoveredText, enteredText, heardText, attemptedText, noQuorumText, runOutText, noPlaceText, formedText, writtenText, cutText, sessionLine, sessionLines, closing, saidText, answerWords, wordAt, toldText, refusedText, lastText}

@@ -6,7 +6,7 @@ use lib.Dec.{ltb}
 use Rattle.group.specs.Answers.{Said, started, recovered, entered, heard, attempted, no-quorum, numbers-run-out, no-place, formed, cut, written, refused}
 use Rattle.group.specs.Heads.{common}
 use Rattle.group.specs.Words.{heads, num}
-use Rattle.stream.specs.Shown.{field, headsText}
+use Rattle.shown.specs.Shown.{field, headsText}
 use Rattle.deeds.specs.Told.{Told, call, announced, armed}
 
 -- `R n`

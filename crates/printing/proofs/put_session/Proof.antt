@@ -3,7 +3,7 @@ use native.Mathlib.Omega.{arith}
 use mathlib.Core.List.{_∷_, []}
 use Prim.Native.Nat.{_/_}
 use lib.ListN.{take}
-use Rattle.stream.specs.Shown.{field, headsText}
+use Rattle.shown.specs.Shown.{field, headsText}
 use Rattle.group.specs.Heads.{common}
 use Rattle.group.specs.Words.{heads}
 use Rattle.printing.specs.Texts.{sessionLine}
