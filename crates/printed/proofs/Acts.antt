@@ -20,13 +20,16 @@ use Rattle.history.specs.Setting.{Setting}
 use Rattle.history.specs.Statement.{Sent, running, World, Call, enter, hear-state, hear-attempt, decide, form, recover, write-state, write-attempt, Event, call, back, leaves, forms, signed, linesOf, step, SentBefore, Given, History, inOrder, insert as put}
 use Rattle.history.specs.Statement as history
 use Rattle.history.proofs.Signed.{may-hear}
-use Rattle.seat.specs.declared.Kept.{Kept}
+use Rattle.keeping.specs.declared.Kept.{Kept}
 use Rattle.seat.specs.declared.Seat.{Seat}
-use Rattle.seat.specs.declared.What.{What}
-use Rattle.seat.specs.declared.What.the-variants as what
-use Rattle.seat.specs.Seat.{blank, sentLine, stateSent, attemptSent, pushed, keptAt, isLine, lineOf, sentOnEntry, sentOnDecision, storesOf}
-use Rattle.seat.specs.Played.{Told, call as says, announced, Played, newly, doesNothing, afterCall, entry, enters, listened, hearsState, hearsAttempt, decision, decides, formation, forms as formsBy, recovers, arms, playedBy}
-use Rattle.worlds.specs.Formed.{noted}
+use Rattle.deeds.specs.declared.What.{What}
+use Rattle.deeds.specs.declared.What.the-variants as what
+use Rattle.keeping.specs.Keeping.{blank, pushed, keptAt, isLine, lineOf}
+use Rattle.seat.specs.Seat.{sentLine, stateSent, attemptSent, sentOnEntry, sentOnDecision, storesOf}
+use Rattle.deeds.specs.Told.{Told, call as says, announced}
+use Rattle.seat.specs.Played.{Played, doesNothing, afterCall, entry, enters, listened, hearsState, hearsAttempt, decision, decides, formation, forms as formsBy, recovers, arms, playedBy}
+use Rattle.formed.specs.Formed.{newly}
+use Rattle.formed.specs.Formed.{noted}
 use Rattle.worlds.specs.Bench.{seatAt}
 use Rattle.printed.specs.Printed.{sendsState, sendsAttempt, hears, eventsBy, after}
 use Rattle.printed.proofs.Listed.{noted-none, noted-put, formed-some}

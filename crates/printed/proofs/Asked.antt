@@ -19,10 +19,12 @@ use Rattle.history.specs.Setting.{Setting}
 use Rattle.events.specs.declared.Event.{Event}
 use Rattle.events.specs.declared.Event.the-variants as event
 use Rattle.events.specs.Events.{named, byteAt, starts, groupEvent, viewEvent, enterEvent, stateEvent, attemptEvent, decideEvent, formEvent, recoverEvent, cutEvent, ofKind, eventOf}
-use Rattle.seat.specs.declared.What.{What}
-use Rattle.seat.specs.declared.What.the-variants as what
-use Rattle.worlds.specs.Views.{announced, membersOf}
-use Rattle.worlds.specs.Bench.{toOf, fromOf, inGroup, groupWhat, viewWhat, enterWhat, whatOf, newViews, eventIn}
+use Rattle.deeds.specs.declared.What.{What}
+use Rattle.deeds.specs.declared.What.the-variants as what
+use Rattle.views.specs.Views.{announced, membersOf}
+use Rattle.asking.specs.Asking.{toOf, fromOf, inGroup, groupWhat, whatOf, eventIn}
+use Rattle.views.specs.Views.{viewWhat, enterWhat}
+use Rattle.worlds.specs.Bench.{newViews}
 use Rattle.printed.proofs.Views.{members-stay}
 use Rattle.printed.proofs.Acts.{Allowed}
 

@@ -18,9 +18,10 @@ use Rattle.head.specs.Calls.{Wrote}
 use Rattle.history.specs.Setting.{Setting}
 use Rattle.history.specs.Statement.{Sent, Head, running, World, Call, call, leaves, back, writes, forms, signed, lineOf as lineFrom, linesOf, called, callOn, step, Given, History, more, inOrder}
 use Rattle.history.proofs.Invariant.{put-here, put-there}
-use Rattle.seat.specs.declared.Kept.{Kept}
+use Rattle.keeping.specs.declared.Kept.{Kept}
 use Rattle.seat.specs.declared.Seat.{Seat}
-use Rattle.seat.specs.Seat.{noLine, chars, sentLine, pushed, keptAt, isLine, lineOf}
+use Rattle.keeping.specs.Keeping.{noLine, chars, pushed, keptAt, isLine, lineOf}
+use Rattle.seat.specs.Seat.{sentLine}
 use Rattle.worlds.specs.Bench.{seatAt}
 
 -- ---- kept lines

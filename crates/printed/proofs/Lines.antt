@@ -21,13 +21,15 @@ use Rattle.events.specs.declared.Event.{Event as Line}
 use Rattle.events.specs.declared.Event.the-variants as event
 use Rattle.events.specs.Events.{starts}
 use Rattle.seat.specs.declared.Seat.{Seat}
-use Rattle.seat.specs.declared.What.{What}
-use Rattle.seat.specs.declared.What.the-variants as what
+use Rattle.deeds.specs.declared.What.{What}
+use Rattle.deeds.specs.declared.What.the-variants as what
 use Rattle.seat.specs.Seat.{emptySeat}
 use Rattle.seat.specs.Played.{doesNothing, playedBy}
-use Rattle.worlds.specs.Views.{membersOf}
-use Rattle.worlds.specs.Formed.{noted}
-use Rattle.worlds.specs.Bench.{Bench, seatAt, startLast, toOf, fromOf, inGroup, groupWhat, viewWhat, enterWhat, whatOf, opens, allStarted, newViews, acts, obeyed, happens, eventIn, taken, played, newBench}
+use Rattle.views.specs.Views.{membersOf}
+use Rattle.formed.specs.Formed.{noted}
+use Rattle.worlds.specs.Bench.{Bench, seatAt, startLast, opens, allStarted, newViews, acts, obeyed, happens, taken, played, newBench}
+use Rattle.asking.specs.Asking.{toOf, fromOf, inGroup, groupWhat, whatOf, eventIn}
+use Rattle.views.specs.Views.{viewWhat, enterWhat}
 use Rattle.printed.specs.Printed.{starting, eventsBy, eventsOf, eventsIn, after, orElse}
 use Rattle.printed.proofs.Listed.{noted-none, noted-put, formed-fit}
 use Rattle.printed.proofs.Follows.{Follows}

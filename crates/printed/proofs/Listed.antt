@@ -17,8 +17,8 @@ use Rattle.history.proofs.Invariant.{reading}
 use Rattle.history.proofs.Calls.Start.{core-some}
 use Rattle.history.proofs.Theorem.{one-count-proved, one-count-listed-proved}
 use Rattle.history.proofs.Counted.{formed-bounded}
-use Rattle.worlds.specs.Views.{membersOf}
-use Rattle.worlds.specs.Formed.{insert, noted}
+use Rattle.views.specs.Views.{membersOf}
+use Rattle.formed.specs.Formed.{insert, noted}
 use Rattle.printed.proofs.Views.{upTo, up-few, member-counts}
 
 -- ---- a session more

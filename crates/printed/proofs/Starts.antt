@@ -14,9 +14,10 @@ use Rattle.head.specs.Session.{noSession}
 use Rattle.history.specs.Setting.{Setting}
 use Rattle.history.specs.Statement.{Sent, Head, unstarted, running, World, start, empty, step, History, begin, more, inOrder, insert as put}
 use Rattle.history.proofs.Invariant.{put-here, put-there}
-use Rattle.seat.specs.declared.Kept.{Kept}
+use Rattle.keeping.specs.declared.Kept.{Kept}
 use Rattle.seat.specs.declared.Seat.{Seat}
-use Rattle.seat.specs.Seat.{noLine, emptySeat, keptAt, isLine}
+use Rattle.keeping.specs.Keeping.{noLine, keptAt, isLine}
+use Rattle.seat.specs.Seat.{emptySeat}
 use Rattle.seat.specs.Played.{starts}
 use Rattle.worlds.specs.Bench.{seatAt, startLast}
 use Rattle.printed.specs.Printed.{starting, after}

@@ -16,9 +16,10 @@ use Rattle.history.specs.Statement.{Event, empty}
 use Rattle.history.proofs.Theorem.{one-count-listed-proved}
 use Rattle.events.specs.declared.Event.{Event as Line}
 use Rattle.events.specs.declared.Event.the-variants as event
-use Rattle.worlds.specs.Formed.{insert, noted}
-use Rattle.worlds.specs.Texts.{closing}
-use Rattle.worlds.specs.Bench.{Bench, toOf, fromOf, groupWhat, opens, acts, obeyed, happens, eventIn, taken, played, newBench, bench}
+use Rattle.formed.specs.Formed.{insert, noted}
+use Rattle.printing.specs.Texts.{closing}
+use Rattle.worlds.specs.Bench.{Bench, opens, acts, obeyed, happens, taken, played, newBench, bench}
+use Rattle.asking.specs.Asking.{toOf, fromOf, groupWhat, eventIn}
 use Rattle.printed.specs.Printed.{eventsOf, eventsIn, after, orElse, groupLine, SettingOf, benchAfter, OfHistory, Printed, formedBy, Room}
 use Rattle.printed.proofs.Listed.{same-put, noted-none, formed-few, formed-fit}
 use Rattle.printed.proofs.Follows.{Follows}

@@ -16,7 +16,7 @@ use Rattle.loops.proofs.Laws.Truth.{not-both}
 use Rattle.group.specs.Heads.{has}
 use Rattle.group.specs.Words.{heads, num}
 use Rattle.group.proofs.Laws.Heads.{has-none}
-use Rattle.worlds.specs.Views.{viewIndex, announced, membersOf}
+use Rattle.views.specs.Views.{viewIndex, announced, membersOf}
 
 -- ---- more views
 

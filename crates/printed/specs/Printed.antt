@@ -13,16 +13,18 @@ use Rattle.history.specs.Setting.{Setting}
 use Rattle.history.specs.Statement.{running, World, Call, enter, hear-state, hear-attempt, decide, form, recover, write-state, write-attempt, Event, start, call, empty, step, History, inOrder, Ordered}
 use Rattle.events.specs.declared.Event.{Event as Line}
 use Rattle.events.specs.declared.Event.the-variants as event
-use Rattle.seat.specs.declared.Kept.{Kept}
+use Rattle.keeping.specs.declared.Kept.{Kept}
 use Rattle.seat.specs.declared.Seat.{Seat}
-use Rattle.seat.specs.declared.What.{What}
-use Rattle.seat.specs.declared.What.the-variants as what
-use Rattle.seat.specs.Seat.{blank, emptySeat, storesOf, keptAt, isLine, lineOf}
+use Rattle.deeds.specs.declared.What.{What}
+use Rattle.deeds.specs.declared.What.the-variants as what
+use Rattle.keeping.specs.Keeping.{blank, keptAt, isLine, lineOf}
+use Rattle.seat.specs.Seat.{emptySeat, storesOf}
 use Rattle.seat.specs.Played.{entry, decision}
-use Rattle.worlds.specs.Views.{membersOf}
-use Rattle.worlds.specs.Formed.{insert, noted}
-use Rattle.worlds.specs.Texts.{closing}
-use Rattle.worlds.specs.Bench.{Bench, seatAt, toOf, fromOf, whatOf, acts, eventIn, taken, played, newBench, bench}
+use Rattle.views.specs.Views.{membersOf}
+use Rattle.formed.specs.Formed.{insert, noted}
+use Rattle.printing.specs.Texts.{closing}
+use Rattle.worlds.specs.Bench.{Bench, seatAt, acts, taken, played, newBench, bench}
+use Rattle.asking.specs.Asking.{toOf, fromOf, whatOf, eventIn}
 
 -- ---- the history that the event lines are
 

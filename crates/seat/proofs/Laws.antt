@@ -2,14 +2,11 @@
 use mathlib.Core.Bool.{Bool, true, false, not}
 use mathlib.Core.List.{List, [], _∷_}
 use mathlib.Core.Path.{_≡_, refl, sym, ap, _∙_}
-use Prim.Native.Nat.{ℕ, _≤_}
-use native.Mathlib.Omega.{arith}
-use borrow.Author.Tests.{not-true, not-false, leb-true}
+use Prim.Native.Nat.{ℕ}
+use borrow.Author.Tests.{not-true, not-false}
 use denote.Enum.Declared.{tagOf}
 use types.Run.{OneOf, miss}
-use lib.Dec.{ltb, leb}
-use lib.ListN.{length, getD, replicate}
-use Rattle.loops.proofs.Laws.Truth.{and-right}
+use lib.ListN.{replicate}
 use Rattle.group.proofs.answers.Answer.{the-type}
 use Rattle.group.specs.declared.answers.Answer.{Answer}
 use Rattle.group.specs.declared.answers.Answer.the-variants as answer
@@ -20,10 +17,13 @@ use Rattle.head.specs.declared.session.Session.{Session}
 use Rattle.head.specs.declared.session.Next.{Next}
 use Rattle.head.specs.Session.{noSession}
 use Rattle.head.specs.Calls.{Ended, ended, Wrote, wrote, hearStateSpec, hearAttemptSpec}
-use Rattle.seat.specs.declared.Kept.{Kept}
+use Rattle.keeping.specs.declared.Kept.{Kept}
 use Rattle.seat.specs.declared.Seat.{Seat}
-use Rattle.seat.specs.Seat.{noLine, emptySeat, chars, sentLine, pushed, stateSent, attemptSent, sentOnEntry, sentOnDecision, isLine, keptAt, lineOf}
-use Rattle.seat.specs.Played.{Played, call, newly, afterCall, afterStart, afterEntry, afterDecision, afterForm, afterRecovery, listened, doesNothing, hearsState, hearsAttempt}
+use Rattle.keeping.specs.Keeping.{noLine, chars, pushed, isLine, keptAt, lineOf}
+use Rattle.seat.specs.Seat.{emptySeat, sentLine, stateSent, attemptSent, sentOnEntry, sentOnDecision}
+use Rattle.seat.specs.Played.{Played, afterCall, afterStart, afterEntry, afterDecision, afterForm, afterRecovery, listened, doesNothing, hearsState, hearsAttempt}
+use Rattle.formed.specs.Formed.{newly}
+use Rattle.deeds.specs.Told.{call}
 
 -- ---- a head at rest
 
@@ -34,29 +34,8 @@ at-rest s k p q = rw (p, q)
 
 -- ---- lines sent
 
-pub no-chars : (a : Answer) → OneOf (0 ∷ 1 ∷ 2 ∷ 3 ∷ 4 ∷ 5 ∷ 6 ∷ 7 ∷ 8 ∷ 10 ∷ 11 ∷ []) (tagOf the-type a) → 0 ≡ chars (said a)
-no-chars answer.Started h = refl
-no-chars answer.Recovered h = refl
-no-chars answer.Entered h = refl
-no-chars answer.Heard h = refl
-no-chars answer.Attempted h = refl
-no-chars answer.NoQuorum h = refl
-no-chars answer.NumbersRunOut h = refl
-no-chars answer.NoPlace h = refl
-no-chars answer.Formed h = refl
-no-chars (answer.Written n) h = absurd (miss (0 ∷ 1 ∷ 2 ∷ 3 ∷ 4 ∷ 5 ∷ 6 ∷ 7 ∷ 8 ∷ 10 ∷ 11 ∷ []) 9 tt h)
-no-chars answer.Cut h = refl
-no-chars (answer.Refused r) h = refl
-
 pub line-is : (n : ℕ) (out : List ℕ) (x : Next) (w : Wrote) → wrote out x ≡ w → n ≡ chars (said (x .answer)) → _≡_ {A = Kept} (record { len = n; bytes = out }) (sentLine w)
 line-is n out x w e p = ap (λ (k : ℕ). record { len = k; bytes = out }) p ∙ ap sentLine e
-
-pub push-is : (k : Kept) (sent : List Kept) (d : Kept) → length sent ≡ 4 → (k ∷ getD sent 0 d ∷ getD sent 1 d ∷ getD sent 2 d ∷ []) ≡ pushed k sent
-unfolding pushed
-push-is k [] d e = absurd (omega (arith, e))
-push-is k (x ∷ []) d e = absurd (omega (arith, e))
-push-is k (x ∷ y ∷ []) d e = absurd (omega (arith, e))
-push-is k (x ∷ y ∷ z ∷ l) d e = refl
 
 module _ (s : Session) (r : List ℕ) (sent : List Kept) where
   pub entry-sent : (a : Answer) (k : Kept) (x : List Kept) → a ≡ answer.Entered → k ≡ stateSent s r → x ≡ pushed k sent → x ≡ sentOnEntry (said a) s r sent
@@ -118,10 +97,6 @@ module _ (h : Seat) where
   recovery-is x words a s o e p q = e ∙ ap (λ (z : Session). afterCall words z (h .sent) (said a) 0) p ∙ ap (afterRecovery h) q
 
 -- ---- deliveries
-
-pub line-long : (n : ℕ) (b : Bool) → b ≡ isLine n → not b ≡ false → n ≤ 419
-unfolding isLine
-line-long n b e f = leb-true n 419 (and-right (ltb 0 n) (leb n 419) (sym e ∙ not-false b f))
 
 module _ (h g : Seat) (w : ℕ) (k : Kept) (b : Bool) (kept : k ≡ keptAt (g .sent) w) (line : b ≡ isLine (k .len)) where
   is : isLine (keptAt (g .sent) w .len) ≡ b

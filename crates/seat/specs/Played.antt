@@ -1,36 +1,25 @@
 -- What a head of the bench does on an event: the head after it, what is printed, and the session it formed, 0 for none. Each is the call's own definition
 -- (crates record, recovery and head) on the head's record and session, "each call gets the session its head last got back".
-use mathlib.Core.Bool.{Bool, true, false, cond}
+use mathlib.Core.Bool.{true, false, cond}
 use mathlib.Core.List.{List}
 use Prim.Native.Nat.{ℕ}
-use lib.Dec.{eqb}
-use Rattle.group.specs.Answers.{Said, said, started, refused}
+use Rattle.group.specs.Answers.{Said, started, refused}
 use Rattle.record.specs.Layout.{primary}
 use Rattle.record.specs.Outcome.{Outcome}
 use Rattle.record.specs.Start.{startSpec}
 use Rattle.recovery.specs.Recover.{recoverSpec}
+use Rattle.formed.specs.Formed.{newly}
 use Rattle.head.specs.declared.session.Session.{Session}
 use Rattle.head.specs.Session.{noSession}
 use Rattle.head.specs.Calls.{Ended, enterSpec, hearStateSpec, hearAttemptSpec, decideSpec, formSpec}
-use Rattle.seat.specs.declared.Kept.{Kept}
+use Rattle.keeping.specs.declared.Kept.{Kept}
 use Rattle.seat.specs.declared.Seat.{Seat}
 use Rattle.seat.specs.declared.Next.{Next}
-use Rattle.seat.specs.declared.Reply.{Reply}
-use Rattle.seat.specs.declared.Reply.the-variants as reply
-use Rattle.seat.specs.declared.What.{What}
-use Rattle.seat.specs.declared.What.the-variants as what
-use Rattle.seat.specs.Seat.{storesOf, keptAt, isLine, lineOf, sentOnEntry, sentOnDecision}
-
--- what is printed for an event: a call's answer, 3 and 14 among the refusals, or one of the bench's own two
-pub data Told : Type 0 where
-  call : Said → Told
-  announced armed : Told
-
-abbrev pub told : Reply → Told
-told (reply.Refused n) = call (refused n)
-told reply.Announced = announced
-told reply.Armed = armed
-told (reply.Head a) = call (said a)
+use Rattle.deeds.specs.Told.{Told, call, announced, armed, told}
+use Rattle.deeds.specs.declared.What.{What}
+use Rattle.deeds.specs.declared.What.the-variants as what
+use Rattle.seat.specs.Seat.{storesOf, sentOnEntry, sentOnDecision}
+use Rattle.keeping.specs.Keeping.{keptAt, isLine, lineOf}
 
 pub record Played : Type 0 where
   pub seat : Seat
@@ -106,10 +95,6 @@ afterDecision h e = afterCall (e .words) (e .session) (sentOnDecision (e .answer
 
 unfoldable pub decides : Seat → Played
 decides h = afterDecision h (decision h)
-
--- "A session is formed when a form call has stored word 3" (document 01): the session there where that word changed, 0 for none
-unfoldable pub newly : ℕ → ℕ → ℕ
-newly before after = cond (eqb after before) 0 after
 
 -- "16 form"
 unfoldable pub formation : Seat → Ended

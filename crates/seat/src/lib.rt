@@ -1,7 +1,18 @@
 // A head of the bench: its record, its session, the lines it sent last and a cut that waits; and what it does on an event, by value.
+use deeds::Deed;
+use deeds::Reply;
+use deeds::What;
+use formed::newly;
 use group::Answer;
 use group::Group;
 use head::session::Session;
+use keeping::Kept;
+use keeping::chars_of;
+use keeping::is_line;
+use keeping::kept_at;
+use keeping::no_line;
+use keeping::push;
+use keeping::stores_of;
 use mending::recover;
 use record::layout::primary;
 use start::start;
@@ -10,14 +21,9 @@ ghost use Prim.Native.Nat.{_<_, _≤_};
 ghost use lib.ListN.{take};
 ghost use Rattle.group.specs.Answers.{said};
 ghost use Rattle.head.specs.Calls.{ended, hearStateSpec, hearAttemptSpec};
-ghost use Rattle.seat.specs.Seat.{noLine, emptySeat, storesFor, chars, pushed, stateSent, attemptSent, sentOnEntry, sentOnDecision, isLine, keptAt};
-ghost use Rattle.seat.specs.Played.{did, told, newly, afterCall, listened, doesNothing, starts, enters, hearsState, hearsAttempt, decides, forms, recovers, arms, playedBy};
-
-// A line that was sent, of at most 419 characters; of none where no line is kept.
-pub struct Kept {
-    pub len: usize,
-    pub bytes: [u8; 419],
-}
+ghost use Rattle.seat.specs.Seat.{emptySeat, stateSent, attemptSent, sentOnEntry, sentOnDecision};
+ghost use Rattle.seat.specs.Played.{did, afterCall, listened, doesNothing, starts, enters, hearsState, hearsAttempt, decides, forms, recovers, arms, playedBy};
+ghost use Rattle.deeds.specs.Told.{told};
 
 // "The sixteen heads stand in one lent table, each with its record, its session and its last four sent lines." A cut that waits is armed, with its stores.
 pub struct Seat {
@@ -28,47 +34,9 @@ pub struct Seat {
     pub stores: u64,
 }
 
-// What a head is to do. The first three are for the bench alone, and leave the head as it is.
-pub enum What {
-    Refuse { number: u8 },
-    Announce { number: u32, heads: u16 },
-    Open { core: u16, least: u8 },
-    Start { core: u16, least: u8 },
-    Enter { view: u32, heads: u16 },
-    HearState { which: u8 },
-    HearAttempt { which: u8 },
-    Decide,
-    Form,
-    Recover,
-    Arm { stores: u16 },
-}
-
-// What is printed for an event.
-pub enum Reply {
-    Refused(u8),
-    Announced,
-    Armed,
-    Head(Answer),
-}
-
-// What a head did: what is printed, and the session that it formed, 0 for none.
-pub struct Deed {
-    pub reply: Reply,
-    pub formed: u64,
-}
-
 pub struct Next {
     pub seat: Seat,
     pub deed: Deed,
-}
-
-fn no_line() -> Kept
-    ensures { λ r. ⌜ r ≡ noLine ⌝ }
-{
-    Kept {
-        len: 0,
-        bytes: [0; 419],
-    }
 }
 
 // A head before its group line.
@@ -83,33 +51,6 @@ pub fn empty_seat() -> Seat
         sent: [line; 4],
         armed: false,
         stores: 0,
-    }
-}
-
-// How many stores the next call of the four may make.
-fn stores_of(armed: bool, stores: u64) -> u64
-    ensures { λ r. ⌜ r ≡ storesFor armed stores ⌝ }
-{
-    if armed { stores } else { u64::MAX }
-}
-
-// A line sent goes in front, and the oldest of the four goes.
-fn push(k: Kept, sent: [Kept; 4]) -> [Kept; 4]
-    ensures { λ r. ⌜ r ≡ pushed k sent ⌝ }
-{
-    let a = sent[0];
-    let b = sent[1];
-    let c = sent[2];
-    [k, a, b, c]
-}
-
-// How many characters a call wrote.
-fn chars_of(answer: Answer) -> usize
-    ensures { λ r. ⌜ r ≡ chars (said answer) ⌝ }
-{
-    match answer {
-        Answer::Written(n) => n,
-        _ => 0,
     }
 }
 
@@ -244,13 +185,6 @@ fn decides(h: Seat) -> Next
     after_call(words, session, sent, answer, 0)
 }
 
-// The session in word 3 where a call changed that word.
-fn newly(before: u64, after: u64) -> u64
-    ensures { λ r. ⌜ r ≡ newly before after ⌝ }
-{
-    if after == before { 0 } else { after }
-}
-
 fn forms(h: Seat) -> Next
     ensures { λ r. ⌜ did r ≡ forms h ⌝ }
 {
@@ -302,24 +236,6 @@ fn listened(h: Seat, s: Session, answer: Answer) -> Next
     }
 }
 
-// Whether a line of so many characters is kept.
-fn is_line(len: usize) -> bool
-    ensures { λ r. ⌜ r ≡ isLine len ⌝ }
-{
-    (0 < len) & (len <= 419)
-}
-
-// The line that a delivery names; of no characters where there is none.
-fn kept_at(g: Seat, which: u8) -> Kept
-    ensures { λ r. ⌜ r ≡ keptAt (g .sent) which ⌝ }
-{
-    if 3 < which {
-        return no_line();
-    }
-    let sent = g.sent;
-    sent[which as usize]
-}
-
 // The state line in the first characters is heard.
 fn heard_state(
     s: Session,
@@ -336,7 +252,8 @@ fn heard_state(
 fn hears_state(h: Seat, g: Seat, which: u8) -> Next
     ensures { λ r. ⌜ did r ≡ hearsState h g which ⌝ }
 {
-    let kept = kept_at(g, which);
+    let sent = g.sent;
+    let kept = kept_at(sent, which);
     let len = kept.len;
     if !is_line(len) {
         return does_nothing(h, Reply::Refused(14), 0);
@@ -366,7 +283,8 @@ fn heard_attempt(
 fn hears_attempt(h: Seat, g: Seat, which: u8) -> Next
     ensures { λ r. ⌜ did r ≡ hearsAttempt h g which ⌝ }
 {
-    let kept = kept_at(g, which);
+    let sent = g.sent;
+    let kept = kept_at(sent, which);
     let len = kept.len;
     if !is_line(len) {
         return does_nothing(h, Reply::Refused(14), 0);

@@ -1,5 +1,4 @@
 -- The laws, one file a subject.
-pub mod Put
 pub mod Keep
 pub mod Shown
 pub mod Walk

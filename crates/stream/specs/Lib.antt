@@ -1,3 +1,2 @@
--- What the program `frames` prints, and how its input is taken in parts.
-pub mod Shown
+-- How the input of the program `frames` is taken in parts.
 pub mod Parts

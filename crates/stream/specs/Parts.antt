@@ -3,20 +3,12 @@ use mathlib.Core.Path.{_≡_}
 use mathlib.Core.List.{List, [], _∷_, _++_}
 use Prim.Native.Nat.{ℕ, _≤_}
 use lib.ListN.{length, take}
-use Rattle.lines.specs.declared.Line.{Line}
-use Rattle.lines.specs.declared.Line.the-variants.{StateLine, AttemptLine, Broken}
 use Rattle.lines.specs.Walk.{wholeLines, begun, lastLine, join}
-use Rattle.stream.specs.Shown.{printed, frames}
+use Rattle.shown.specs.Shown.{printed, frames}
 
 -- n counts bytes at the start of xs; both facts, so that a caller may lend the first n
 abbrev pub Counts : ℕ → List ℕ → Type 0
 Counts n xs = (n ≤ length xs) × (n ≡ length (take n xs))
-
--- room enough for what a line prints
-abbrev pub room : Line → ℕ
-room (StateLine v p) = 112
-room (AttemptLine v p) = 44
-room (Broken k) = 4
 
 -- What is printed when the input comes in these parts and h is held of the line begun before them: for each part its whole lines (what `feed` prints), with the
 -- first 420 bytes of the line that it begins held for the next; at the end the last line (what `finish` prints).

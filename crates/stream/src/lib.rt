@@ -1,20 +1,16 @@
 // What `frames` prints for lines that come in parts of any size.
-mod show;
-
-use crate::show::print;
-use crate::show::print_refused;
 use hex::line_end;
 use reader::judge;
+use shown::print;
+use shown::print_refused;
 ghost use mathlib.Core.Path.{_≡_};
 ghost use mathlib.Core.List.{_++_, []};
 ghost use Prim.Native.Nat.{_+_, _*_, _-_, _≤_};
 ghost use lib.ListN.{length, take, drop};
 ghost use Rattle.lines.specs.Reading.{judged};
 ghost use Rattle.lines.specs.Walk.{wholeLines, begun, lastLine};
-ghost use Rattle.stream.specs.Shown.{shown, printed};
-ghost use Rattle.stream.specs.Parts.{Counts, room};
-pub use show::put_field;
-pub use show::put_heads;
+ghost use Rattle.shown.specs.Shown.{shown, printed, room};
+ghost use Rattle.stream.specs.Parts.{Counts};
 
 // What a part of the input came to: bytes printed, and bytes held of the line that it begins.
 pub struct Fed {

@@ -15,22 +15,22 @@ use denote.Laws.{Is, Tells, Makes, Lawful}
 use denote.Memory.{mem}
 use denote.Slice.{Room}
 use denote.Struct.Laws as LL
-use Rattle.seat.specs.declared.Deed.{Deed}
+use Rattle.deeds.specs.declared.Deed.{Deed}
 use Rattle.seat.specs.declared.Next.{Next}
 use Rattle.seat.specs.declared.Seat.{Seat}
-use Rattle.seat.specs.declared.What.{What}
-use Rattle.worlds.specs.declared.Order.{Order}
-use Rattle.worlds.specs.declared.World.{World}
-use Rattle.seat.proofs.Deed as d₁
-use Rattle.seat.proofs.Deed.Laws as d₂
+use Rattle.deeds.specs.declared.What.{What}
+use Rattle.asking.specs.declared.Order.{Order}
+use Rattle.asking.specs.declared.World.{World}
+use Rattle.deeds.proofs.Deed as d₁
+use Rattle.deeds.proofs.Deed.Laws as d₂
 use Rattle.seat.proofs.Next as n₁
 use Rattle.seat.proofs.Next.Laws as n₂
 use Rattle.seat.proofs.Seat as T
 use Rattle.seat.proofs.Seat.Laws as T′
-use Rattle.worlds.proofs.Order as o₁
-use Rattle.worlds.proofs.Order.Laws as o₂
-use Rattle.worlds.proofs.World as w₁
-use Rattle.worlds.proofs.World.Laws as w₂
+use Rattle.asking.proofs.Order as o₁
+use Rattle.asking.proofs.Order.Laws as o₂
+use Rattle.asking.proofs.World as w₁
+use Rattle.asking.proofs.World.Laws as w₂
 
 -- ---- the element
 abbrev pub R : RattleType

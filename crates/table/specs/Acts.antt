@@ -3,9 +3,10 @@ use mathlib.Core.Path.{_≡_}
 use mathlib.Core.List.{List}
 use lib.ListN.{set}
 use Rattle.seat.specs.declared.Seat.{Seat}
-use Rattle.seat.specs.declared.Deed.{Deed}
-use Rattle.seat.specs.Played.{Played, told, playedBy}
-use Rattle.worlds.specs.declared.Order.{Order}
+use Rattle.deeds.specs.declared.Deed.{Deed}
+use Rattle.seat.specs.Played.{Played, playedBy}
+use Rattle.deeds.specs.Told.{told}
+use Rattle.asking.specs.declared.Order.{Order}
 use Rattle.worlds.specs.Bench.{seatAt}
 
 abbrev pub playedAs : List Seat → Order → Played

@@ -1,15 +1,15 @@
 // The sixteen heads of the bench stand in one lent table. Each function over the table is thin, and proved by a walk of its MIR, by hand; what a head does is a
 // function by value, which is covered.
+use asking::Order;
+use asking::World;
+use asking::asked;
+use deeds::Deed;
 use group::Group;
-use seat::Deed;
+use noting::told;
 use seat::Next;
 use seat::Seat;
 use seat::empty_seat;
 use seat::played;
-use worlds::Order;
-use worlds::World;
-use worlds::asked;
-use worlds::told;
 ghost use mathlib.Core.Path.{_≡_};
 ghost use Prim.Native.Nat.{_<_, _≤_};
 ghost use lib.ListN.{length, replicate};

@@ -1,7 +1,4 @@
--- The bench (document 02, Item 1): what it knows, what an event line does, what is printed, and how the code holds it.
-pub mod Views
-pub mod Formed
-pub mod Texts
+-- The bench (document 02, Item 1): what it knows, what an event line does, and how the code holds it.
 pub mod Bench
 pub mod Desk
 pub mod Parts

@@ -1,6 +1,6 @@
 -- The input in parts: what the bench comes to part by part, and what is held of a line between two parts.
-use mathlib.Core.Path.{_≡_}
 use mathlib.Core.List.{List, [], _∷_, _++_}
+use mathlib.Core.Path.{_≡_}
 use Prim.Native.Nat.{ℕ}
 use lib.ListN.{take}
 use Rattle.lines.specs.Walk.{wholeLines, begun, lastLine, linesOf, join}

@@ -45,9 +45,9 @@ use denote.Triple.Clauses.{ensured, lasts}
 use denote.Triple.Table.{entered, cited}
 use denote.Triple.Walked.{says, Stays, walkOf, Walks, ends-at, walked, walk-meets}
 use Rattle.seat.specs.declared.Seat.{Seat}
-use Rattle.worlds.specs.declared.World.{World}
+use Rattle.asking.specs.declared.World.{World}
 use Rattle.worlds.specs.Desk.{benchOf, Ready, Fed}
-use Rattle.bench.specs.Program.{firstWorld, Filled, Later}
+use Rattle.reading.specs.Reading.{firstWorld, Filled, Later}
 use Rattle.bench.proofs.Laws.{Calm, calm-first, calm-between, ready-now, put-fits, calm-after, fewer-after}
 use Rattle.table.proofs.Elem.{R, size, lawful, Rw, world-mir, world-val, world-tells, world-typed, world-makes}
 use Rattle.table.proofs.Local.{row-of, row-room, lend-row, row-back, share-row, row-unshared}
@@ -72,22 +72,22 @@ use Rattle.bench.proofs.output as outp
 use Rattle.bench.proofs.output.Symbol as outp-def
 use Rattle.bench.proofs.output.Symbol.{name as #bench·output}
 use Rattle.bench.proofs.output.Met as outp-thm
-use Rattle.bench.proofs.first_world as world0
-use Rattle.bench.proofs.first_world.Symbol as world0-def
-use Rattle.bench.proofs.first_world.Symbol.{name as #bench·first-world}
-use Rattle.bench.proofs.first_world.Met as world0-thm
-use Rattle.bench.proofs.filled as filled
-use Rattle.bench.proofs.filled.Symbol as filled-def
-use Rattle.bench.proofs.filled.Symbol.{name as #bench·filled}
-use Rattle.bench.proofs.filled.Met as filled-thm
+use Rattle.reading.proofs.first_world as world0
+use Rattle.reading.proofs.first_world.Symbol as world0-def
+use Rattle.reading.proofs.first_world.Symbol.{name as #reading·first-world}
+use Rattle.reading.proofs.first_world.Met as world0-thm
+use Rattle.reading.proofs.filled as filled
+use Rattle.reading.proofs.filled.Symbol as filled-def
+use Rattle.reading.proofs.filled.Symbol.{name as #reading·filled}
+use Rattle.reading.proofs.filled.Met as filled-thm
 use Rattle.table.proofs.feed as feed
 use Rattle.table.proofs.feed.Symbol as feed-def
 use Rattle.table.proofs.feed.Symbol.{name as #table·feed}
 use Rattle.table.proofs.feed.Met as feed-thm
-use Rattle.bench.proofs.sent as sent
-use Rattle.bench.proofs.sent.Symbol as sent-def
-use Rattle.bench.proofs.sent.Symbol.{name as #bench·sent}
-use Rattle.bench.proofs.sent.Met as sent-thm
+use Rattle.reading.proofs.sent as sent
+use Rattle.reading.proofs.sent.Symbol as sent-def
+use Rattle.reading.proofs.sent.Symbol.{name as #reading·sent}
+use Rattle.reading.proofs.sent.Met as sent-thm
 use Rattle.bench.proofs.finished as fin
 use Rattle.bench.proofs.finished.Symbol as fin-def
 use Rattle.bench.proofs.finished.Symbol.{name as #bench·finished}
@@ -318,7 +318,7 @@ module _ {M : Type 1} (𝓤 : URA M) (H : Heap 𝓤) (A : Atoms 𝓤) (W : Given
         nothing ! $ move ! (3 ∷ 0 ∷ []) $ join ! $ move ! (1 ∷ 0 ∷ []) $ join ! $ frame ! $
         nothing ! $ owned ! Rw (Is Rw) (world-makes 𝓤 H A) z _ gz $ fjoin ! $ move ! (2 ∷ 0 ∷ []) $ fjoin ! $ move ! (1 ∷ 0 ∷ []) $ fjoin ! $ done !
 
-  module _ (𝓣 : Tables 𝓤 H) (known-newtab : Triple 𝓤 (𝓣 .C #table·new-table) (Newtab 𝓤 H A mem′ run)) (known-viewroom : Triple 𝓤 (𝓣 .C #bench·view-room) (Viewroom 𝓤 H A mem′ run)) (known-sessroom : Triple 𝓤 (𝓣 .C #bench·session-room) (Sessroom 𝓤 H A mem′ run)) (known-inp : Triple 𝓤 (𝓣 .C #bench·input) (Inp 𝓤 H A mem′ run)) (known-outp : Triple 𝓤 (𝓣 .C #bench·output) (Outp 𝓤 H A mem′ run)) (known-world0 : Triple 𝓤 (𝓣 .C #bench·first-world) (World0 𝓤 H A mem′ run)) (known-filled : Triple 𝓤 (𝓣 .C #bench·filled) (Fills 𝓤 H A mem′ run)) (known-feed : Triple 𝓤 (𝓣 .C #table·feed) (Feed 𝓤 H A mem′ run)) (known-sent : Triple 𝓤 (𝓣 .C #bench·sent) (Sent 𝓤 H A mem′ run)) (known-fin : Triple 𝓤 (𝓣 .C #bench·finished) (Fin 𝓤 H A mem′ run)) (l₀ l₁ l₂ l₃ l₄ l₅ l₆ l₇ l₈ l₉ l₁₀ l₁₁ l₁₂ l₁₃ l₁₄ l₁₅ l₁₆ l₁₇ l₁₈ l₁₉ l₂₀ l₂₁ l₂₂ l₂₃ l₂₄ l₂₅ l₂₆ l₂₇ l₂₈ l₂₉ l₃₀ : ℕ) where
+  module _ (𝓣 : Tables 𝓤 H) (known-newtab : Triple 𝓤 (𝓣 .C #table·new-table) (Newtab 𝓤 H A mem′ run)) (known-viewroom : Triple 𝓤 (𝓣 .C #bench·view-room) (Viewroom 𝓤 H A mem′ run)) (known-sessroom : Triple 𝓤 (𝓣 .C #bench·session-room) (Sessroom 𝓤 H A mem′ run)) (known-inp : Triple 𝓤 (𝓣 .C #bench·input) (Inp 𝓤 H A mem′ run)) (known-outp : Triple 𝓤 (𝓣 .C #bench·output) (Outp 𝓤 H A mem′ run)) (known-world0 : Triple 𝓤 (𝓣 .C #reading·first-world) (World0 𝓤 H A mem′ run)) (known-filled : Triple 𝓤 (𝓣 .C #reading·filled) (Fills 𝓤 H A mem′ run)) (known-feed : Triple 𝓤 (𝓣 .C #table·feed) (Feed 𝓤 H A mem′ run)) (known-sent : Triple 𝓤 (𝓣 .C #reading·sent) (Sent 𝓤 H A mem′ run)) (known-fin : Triple 𝓤 (𝓣 .C #bench·finished) (Fin 𝓤 H A mem′ run)) (l₀ l₁ l₂ l₃ l₄ l₅ l₆ l₇ l₈ l₉ l₁₀ l₁₁ l₁₂ l₁₃ l₁₄ l₁₅ l₁₆ l₁₇ l₁₈ l₁₉ l₂₀ l₂₁ l₂₂ l₂₃ l₂₄ l₂₅ l₂₆ l₂₇ l₂₈ l₂₉ l₃₀ : ℕ) where
     abbrev C : Calls 𝓤 H
     C = 𝓣 .C
 
@@ -450,7 +450,7 @@ module _ {M : Type 1} (𝓤 : URA M) (H : Heap 𝓤) (A : Atoms 𝓤) (W : Given
     looped : (i : State) → Sq W (At i) (runs C Λ En code′.t-12 (atRet En Post))
     looped i = first ! $ blocks ! $ loops ! 𝓣 Nearer Nearer-wf At turns i
 
-  walk : (𝓣 : Tables 𝓤 H) (known-newtab : Triple 𝓤 (𝓣 .C #table·new-table) (Newtab 𝓤 H A mem′ run)) → (known-viewroom : Triple 𝓤 (𝓣 .C #bench·view-room) (Viewroom 𝓤 H A mem′ run)) → (known-sessroom : Triple 𝓤 (𝓣 .C #bench·session-room) (Sessroom 𝓤 H A mem′ run)) → (known-inp : Triple 𝓤 (𝓣 .C #bench·input) (Inp 𝓤 H A mem′ run)) → (known-outp : Triple 𝓤 (𝓣 .C #bench·output) (Outp 𝓤 H A mem′ run)) → (known-world0 : Triple 𝓤 (𝓣 .C #bench·first-world) (World0 𝓤 H A mem′ run)) → (known-filled : Triple 𝓤 (𝓣 .C #bench·filled) (Fills 𝓤 H A mem′ run)) → (known-feed : Triple 𝓤 (𝓣 .C #table·feed) (Feed 𝓤 H A mem′ run)) → (known-sent : Triple 𝓤 (𝓣 .C #bench·sent) (Sent 𝓤 H A mem′ run)) → (known-fin : Triple 𝓤 (𝓣 .C #bench·finished) (Fin 𝓤 H A mem′ run)) → ent 𝓤 (onEntry 𝓤 H A f.signature tt tt tt tt) (WpFn 𝓤 H (𝓣 .C) (𝓣 .Λ) code.function [] Post)
+  walk : (𝓣 : Tables 𝓤 H) (known-newtab : Triple 𝓤 (𝓣 .C #table·new-table) (Newtab 𝓤 H A mem′ run)) → (known-viewroom : Triple 𝓤 (𝓣 .C #bench·view-room) (Viewroom 𝓤 H A mem′ run)) → (known-sessroom : Triple 𝓤 (𝓣 .C #bench·session-room) (Sessroom 𝓤 H A mem′ run)) → (known-inp : Triple 𝓤 (𝓣 .C #bench·input) (Inp 𝓤 H A mem′ run)) → (known-outp : Triple 𝓤 (𝓣 .C #bench·output) (Outp 𝓤 H A mem′ run)) → (known-world0 : Triple 𝓤 (𝓣 .C #reading·first-world) (World0 𝓤 H A mem′ run)) → (known-filled : Triple 𝓤 (𝓣 .C #reading·filled) (Fills 𝓤 H A mem′ run)) → (known-feed : Triple 𝓤 (𝓣 .C #table·feed) (Feed 𝓤 H A mem′ run)) → (known-sent : Triple 𝓤 (𝓣 .C #reading·sent) (Sent 𝓤 H A mem′ run)) → (known-fin : Triple 𝓤 (𝓣 .C #bench·finished) (Fin 𝓤 H A mem′ run)) → ent 𝓤 (onEntry 𝓤 H A f.signature tt tt tt tt) (WpFn 𝓤 H (𝓣 .C) (𝓣 .Λ) code.function [] Post)
   walk 𝓣 known-newtab known-viewroom known-sessroom known-inp known-outp known-world0 known-filled known-feed known-sent known-fin =
       qed W (‵ ftrue ∷ ‵ (owns [] tt tt) ∷ []) ∵ enter ! (𝓣 .C) (𝓣 .Λ) code.function [] _ $
       alloc1 ! (λ l₀. alloc1 ! (λ l₁. alloc1 ! (λ l₂. alloc1 ! (λ l₃. alloc1 ! (λ l₄. alloc1 ! (λ l₅. alloc1 ! (λ l₆. alloc1 ! (λ l₇. alloc1 ! (λ l₈. alloc1 ! (λ l₉. alloc1 ! (λ l₁₀. alloc1 ! (λ l₁₁. alloc1 ! (λ l₁₂. alloc1 ! (λ l₁₃. alloc1 ! (λ l₁₄. alloc1 ! (λ l₁₅. alloc1 ! (λ l₁₆. alloc1 ! (λ l₁₇. alloc1 ! (λ l₁₈. alloc1 ! (λ l₁₉. alloc1 ! (λ l₂₀. alloc1 ! (λ l₂₁. alloc1 ! (λ l₂₂. alloc1 ! (λ l₂₃. alloc1 ! (λ l₂₄. alloc1 ! (λ l₂₅. alloc1 ! (λ l₂₆. alloc1 ! (λ l₂₇. alloc1 ! (λ l₂₈. alloc1 ! (λ l₂₉. alloc1 ! (λ l₃₀. alloc0 ! $ params1 ! $
@@ -492,7 +492,7 @@ module _ {M : Type 1} (𝓤 : URA M) (H : Heap 𝓤) (A : Atoms 𝓤) (W : Given
       land ! (from ! (stop !)) (init ! 54 refl (world-typed 𝓤 H A W z v₆ is₆)) $ rewrite ! 54 (λ (u : Val). ‵ (fat fullShare world-mir l₆ 0 u)) (ap only (world-tells z (v₆ ∷ []) is₆)) refl $ forget ! 52 refl $ forget ! 50 refl $ forget ! 48 refl $ forget ! 46 refl $ forget ! 44 refl $
       keep ! (5 ∷ 4 ∷ 3 ∷ 2 ∷ 1 ∷ 6 ∷ 7 ∷ 8 ∷ 9 ∷ 10 ∷ 11 ∷ 12 ∷ 13 ∷ 14 ∷ 15 ∷ 16 ∷ 17 ∷ 18 ∷ 19 ∷ 20 ∷ 21 ∷ 22 ∷ 23 ∷ 24 ∷ 25 ∷ 26 ∷ 27 ∷ 28 ∷ 29 ∷ 30 ∷ 31 ∷ 32 ∷ 33 ∷ 34 ∷ 35 ∷ 36 ∷ 37 ∷ 38 ∷ 39 ∷ 40 ∷ 41 ∷ 42 ∷ 43 ∷ 44 ∷ 45 ∷ 46 ∷ 47 ∷ 48 ∷ 49 ∷ 50 ∷ 51 ∷ 52 ∷ 53 ∷ 54 ∷ 55 ∷ 56 ∷ 57 ∷ 58 ∷ 59 ∷ 60 ∷ 61 ∷ 62 ∷ []) $ looped 𝓣 known-newtab known-viewroom known-sessroom known-inp known-outp known-world0 known-filled known-feed known-sent known-fin l₀ l₁ l₂ l₃ l₄ l₅ l₆ l₇ l₈ l₉ l₁₀ l₁₁ l₁₂ l₁₃ l₁₄ l₁₅ l₁₆ l₁₇ l₁₈ l₁₉ l₂₀ l₂₁ l₂₂ l₂₃ l₂₄ l₂₅ l₂₆ l₂₇ l₂₈ l₂₉ l₃₀ (record { ts = ts; vs = vs; fs = fs; bs = bs; os = os; z = z; calm = calm-first ts vs fs bs os z e (is₁ .1 .0 .1) (is₂ .1 .0 .1) (is₃ .1 .0 .1) (is₄ .1 .0 .1) (is₅ .1 .0 .1); is = subst (λ (u : Val). Is Rw z (u ∷ [])) (ap only (world-tells z (v₆ ∷ []) is₆)) is₆ })))))))))))))))))))))))))))))))))))))))))))))))))))
 
-module _ {M : Type 1} (𝓤 : URA M) (H : Heap 𝓤) (A : Atoms 𝓤) (W : Given 𝓤 H A) (mem′ : Memory → SProp 𝓤) (run : Routine → Fun 𝓤) (𝓣 : Tables 𝓤 H) (known-newtab : Triple 𝓤 (𝓣 .C #table·new-table) (Newtab 𝓤 H A mem′ run)) (known-viewroom : Triple 𝓤 (𝓣 .C #bench·view-room) (Viewroom 𝓤 H A mem′ run)) (known-sessroom : Triple 𝓤 (𝓣 .C #bench·session-room) (Sessroom 𝓤 H A mem′ run)) (known-inp : Triple 𝓤 (𝓣 .C #bench·input) (Inp 𝓤 H A mem′ run)) (known-outp : Triple 𝓤 (𝓣 .C #bench·output) (Outp 𝓤 H A mem′ run)) (known-world0 : Triple 𝓤 (𝓣 .C #bench·first-world) (World0 𝓤 H A mem′ run)) (known-filled : Triple 𝓤 (𝓣 .C #bench·filled) (Fills 𝓤 H A mem′ run)) (known-feed : Triple 𝓤 (𝓣 .C #table·feed) (Feed 𝓤 H A mem′ run)) (known-sent : Triple 𝓤 (𝓣 .C #bench·sent) (Sent 𝓤 H A mem′ run)) (known-fin : Triple 𝓤 (𝓣 .C #bench·finished) (Fin 𝓤 H A mem′ run)) where
+module _ {M : Type 1} (𝓤 : URA M) (H : Heap 𝓤) (A : Atoms 𝓤) (W : Given 𝓤 H A) (mem′ : Memory → SProp 𝓤) (run : Routine → Fun 𝓤) (𝓣 : Tables 𝓤 H) (known-newtab : Triple 𝓤 (𝓣 .C #table·new-table) (Newtab 𝓤 H A mem′ run)) (known-viewroom : Triple 𝓤 (𝓣 .C #bench·view-room) (Viewroom 𝓤 H A mem′ run)) (known-sessroom : Triple 𝓤 (𝓣 .C #bench·session-room) (Sessroom 𝓤 H A mem′ run)) (known-inp : Triple 𝓤 (𝓣 .C #bench·input) (Inp 𝓤 H A mem′ run)) (known-outp : Triple 𝓤 (𝓣 .C #bench·output) (Outp 𝓤 H A mem′ run)) (known-world0 : Triple 𝓤 (𝓣 .C #reading·first-world) (World0 𝓤 H A mem′ run)) (known-filled : Triple 𝓤 (𝓣 .C #reading·filled) (Fills 𝓤 H A mem′ run)) (known-feed : Triple 𝓤 (𝓣 .C #table·feed) (Feed 𝓤 H A mem′ run)) (known-sent : Triple 𝓤 (𝓣 .C #reading·sent) (Sent 𝓤 H A mem′ run)) (known-fin : Triple 𝓤 (𝓣 .C #bench·finished) (Fin 𝓤 H A mem′ run)) where
   walks : Walks 𝓤 H A f.ended stayed (WpFn 𝓤 H (𝓣 .C) (𝓣 .Λ) code.function) (f.clauses 𝓤 H A mem′ run)
   walks = walked 𝓤 H A f.ended stayed (f.clauses 𝓤 H A mem′ run) (WpFn 𝓤 H (𝓣 .C) (𝓣 .Λ) code.function) (λ κs. tt) (λ κs. tt)
       (λ κs qs bounds a g are. via 𝓤 _ (fst∗ 𝓤 _ (emp 𝓤)) (walk 𝓤 H A W mem′ run 𝓣 known-newtab known-viewroom known-sessroom known-inp known-outp known-world0 known-filled known-feed known-sent known-fin))
@@ -512,8 +512,8 @@ run-spec 𝓤 H 𝓜 𝓖 𝓡 =
     (cited 𝓤 H (Sessroom 𝓤 H (𝓖 .A) (𝓜 .mem) (𝓡 .run)) 𝓜 𝓡 code.env #bench·session-room sessroom-def.routine code.calls-bench·session-room (sessroom-thm.met 𝓤 H 𝓜 𝓖 𝓡))
     (cited 𝓤 H (Inp 𝓤 H (𝓖 .A) (𝓜 .mem) (𝓡 .run)) 𝓜 𝓡 code.env #bench·input inp-def.routine code.calls-bench·input (inp-thm.met 𝓤 H 𝓜 𝓖 𝓡))
     (cited 𝓤 H (Outp 𝓤 H (𝓖 .A) (𝓜 .mem) (𝓡 .run)) 𝓜 𝓡 code.env #bench·output outp-def.routine code.calls-bench·output (outp-thm.met 𝓤 H 𝓜 𝓖 𝓡))
-    (cited 𝓤 H (World0 𝓤 H (𝓖 .A) (𝓜 .mem) (𝓡 .run)) 𝓜 𝓡 code.env #bench·first-world world0-def.routine code.calls-bench·first-world (world0-thm.met 𝓤 H 𝓜 𝓖 𝓡))
-    (cited 𝓤 H (Fills 𝓤 H (𝓖 .A) (𝓜 .mem) (𝓡 .run)) 𝓜 𝓡 code.env #bench·filled filled-def.routine code.calls-bench·filled (filled-thm.met 𝓤 H 𝓜 𝓖 𝓡))
+    (cited 𝓤 H (World0 𝓤 H (𝓖 .A) (𝓜 .mem) (𝓡 .run)) 𝓜 𝓡 code.env #reading·first-world world0-def.routine code.calls-reading·first-world (world0-thm.met 𝓤 H 𝓜 𝓖 𝓡))
+    (cited 𝓤 H (Fills 𝓤 H (𝓖 .A) (𝓜 .mem) (𝓡 .run)) 𝓜 𝓡 code.env #reading·filled filled-def.routine code.calls-reading·filled (filled-thm.met 𝓤 H 𝓜 𝓖 𝓡))
     (cited 𝓤 H (Feed 𝓤 H (𝓖 .A) (𝓜 .mem) (𝓡 .run)) 𝓜 𝓡 code.env #table·feed feed-def.routine code.calls-table·feed (feed-thm.met 𝓤 H 𝓜 𝓖 𝓡))
-    (cited 𝓤 H (Sent 𝓤 H (𝓖 .A) (𝓜 .mem) (𝓡 .run)) 𝓜 𝓡 code.env #bench·sent sent-def.routine code.calls-bench·sent (sent-thm.met 𝓤 H 𝓜 𝓖 𝓡))
+    (cited 𝓤 H (Sent 𝓤 H (𝓖 .A) (𝓜 .mem) (𝓡 .run)) 𝓜 𝓡 code.env #reading·sent sent-def.routine code.calls-reading·sent (sent-thm.met 𝓤 H 𝓜 𝓖 𝓡))
     (cited 𝓤 H (Fin 𝓤 H (𝓖 .A) (𝓜 .mem) (𝓡 .run)) 𝓜 𝓡 code.env #bench·finished fin-def.routine code.calls-bench·finished (fin-thm.met 𝓤 H 𝓜 𝓖 𝓡)))

@@ -4,7 +4,8 @@ use Prim.Native.Nat.{ℕ}
 use Rattle.head.specs.Calls.{formSpec}
 use Rattle.seat.proofs.Laws.{form-is}
 use Rattle.seat.specs.Seat.{storesOf}
-use Rattle.seat.specs.Played.{forms, formation, newly}
+use Rattle.seat.specs.Played.{forms, formation}
+use Rattle.formed.specs.Formed.{newly}
 use borrow.Author.Needs.{needs}
 use Rattle.seat.proofs.forms.Statement.{statement}
 use Rattle.seat.proofs.forms.Tie as tie

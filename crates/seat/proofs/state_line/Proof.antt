@@ -1,6 +1,7 @@
 -- The writing call's own contract, on an output of zeros.
 use Rattle.seat.proofs.Laws.{line-is}
-use Rattle.seat.specs.Seat.{stateSent, blank}
+use Rattle.seat.specs.Seat.{stateSent}
+use Rattle.keeping.specs.Keeping.{blank}
 use borrow.Author.Needs.{needs}
 use Rattle.seat.proofs.state_line.Statement.{statement}
 use Rattle.seat.proofs.state_line.Tie as tie

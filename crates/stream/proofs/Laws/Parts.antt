@@ -17,7 +17,7 @@ use Rattle.lines.specs.Reading.{judged, readLine}
 use Rattle.lines.specs.Walk.{wholeLines, begun, lastLine, linesOf, join}
 use Rattle.lines.proofs.Laws.Reading.{first-line, no-line}
 use Rattle.lines.proofs.Laws.Walk.{whole-append, begun-append, none-whole}
-use Rattle.stream.specs.Shown.{refusedText, shown, printed, frames}
+use Rattle.shown.specs.Shown.{refusedText, shown, printed, frames}
 use Rattle.stream.specs.Parts.{run, AnyParts}
 use Rattle.stream.proofs.Laws.Shown.{broken-shown, long-refused, printed-append}
 

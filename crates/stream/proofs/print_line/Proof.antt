@@ -2,7 +2,7 @@
 use mathlib.Core.Path.{ap, _∙_}
 use native.Mathlib.Omega.{arith}
 use Rattle.lines.specs.declared.Read.{Read}
-use Rattle.stream.specs.Parts.{room}
+use Rattle.shown.specs.Shown.{room}
 use borrow.Author.Needs.{needs}
 use Rattle.stream.proofs.print_line.Statement.{statement}
 use Rattle.stream.proofs.print_line.Tie as tie

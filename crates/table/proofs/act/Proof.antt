@@ -43,7 +43,7 @@ use denote.Exit.{yes}
 use Rattle.seat.specs.declared.Seat.{Seat}
 use Rattle.seat.specs.declared.Next.{Next}
 use Rattle.seat.specs.Played.{Played as Outcome, did, playedBy}
-use Rattle.worlds.specs.declared.Order.{Order}
+use Rattle.asking.specs.declared.Order.{Order}
 use Rattle.worlds.specs.Bench.{seatAt}
 use Rattle.table.specs.Acts.{playedAs}
 use Rattle.table.proofs.More.{big-lit}

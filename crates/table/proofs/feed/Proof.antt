@@ -44,9 +44,10 @@ use denote.Triple.Walked.{says, needs, Stays, stay-none, stay-none-slice, stay-s
 use denote.Exit.{yes}
 use Rattle.lines.specs.Walk.{wholeLines}
 use Rattle.seat.specs.declared.Seat.{Seat}
-use Rattle.worlds.specs.declared.World.{World}
+use Rattle.asking.specs.declared.World.{World}
 use Rattle.worlds.specs.Bench.{Bench, played}
-use Rattle.worlds.specs.Desk.{benchOf, left, Ready, toGo, SamePart, Turned}
+use Rattle.worlds.specs.Desk.{benchOf, Ready, toGo, SamePart, Turned}
+use Rattle.asking.specs.Asking.{left}
 use Rattle.worlds.proofs.Laws.Turn.{over}
 use Rattle.table.proofs.Again.{LentAgain, lends-again, comes-back}
 use Rattle.table.proofs.Elem.{R, Rw, world-mir, world-val, world-tells, world-typed, world-makes}

@@ -38,26 +38,29 @@ use denote.Triple.Clauses.{ensured, lasts}
 use denote.Triple.Table.{entered, cited}
 use denote.Triple.Walked.{says, needs, Stays, stay-none, stay-none-slice, gave-slice, walkOf, goes-none, goes-none-slice, goes-gave-slice, Walks, ends-at, walked, walk-meets}
 use denote.Exit.{yes}
-use Rattle.seat.specs.declared.Deed.{Deed}
+use Rattle.deeds.specs.declared.Deed.{Deed}
 use Rattle.seat.specs.declared.Seat.{Seat}
-use Rattle.worlds.specs.declared.Order.{Order}
-use Rattle.worlds.specs.declared.World.{World}
-use Rattle.worlds.specs.Desk.{Ready, Noted, listed, orderOf}
+use Rattle.asking.specs.declared.Order.{Order}
+use Rattle.asking.specs.declared.World.{World}
+use Rattle.worlds.specs.Desk.{Ready}
+use Rattle.noting.specs.Noting.{Noted}
+use Rattle.views.specs.Views.{listed}
+use Rattle.asking.specs.Asking.{orderOf}
 use Rattle.worlds.proofs.Laws.Turn.{turned, order-heads}
 use Rattle.table.specs.Acts.{Acted}
 use Rattle.table.proofs.Elem.{R, Rd, deed-typed, Ro, order-mir, order-val, order-tells, order-typed, order-makes, Rw, world-val, world-tells, world-typed, world-makes}
-use Rattle.worlds.proofs.asked as asked
-use Rattle.worlds.proofs.asked.Symbol as asked-def
-use Rattle.worlds.proofs.asked.Symbol.{name as #worlds·asked}
-use Rattle.worlds.proofs.asked.Met as asked-thm
+use Rattle.asking.proofs.asked as asked
+use Rattle.asking.proofs.asked.Symbol as asked-def
+use Rattle.asking.proofs.asked.Symbol.{name as #asking·asked}
+use Rattle.asking.proofs.asked.Met as asked-thm
 use Rattle.table.proofs.act as act
 use Rattle.table.proofs.act.Symbol as act-def
 use Rattle.table.proofs.act.Symbol.{name as #table·act}
 use Rattle.table.proofs.act.Met as act-thm
-use Rattle.worlds.proofs.told as told
-use Rattle.worlds.proofs.told.Symbol as told-def
-use Rattle.worlds.proofs.told.Symbol.{name as #worlds·told}
-use Rattle.worlds.proofs.told.Met as told-thm
+use Rattle.noting.proofs.told as told
+use Rattle.noting.proofs.told.Symbol as told-def
+use Rattle.noting.proofs.told.Symbol.{name as #noting·told}
+use Rattle.noting.proofs.told.Met as told-thm
 use Rattle.table.proofs.turn.Key.{name as #table·turn}
 use Rattle.table.proofs.turn as f
 use Rattle.table.proofs.turn.Statement as stated
@@ -191,7 +194,7 @@ module _ {M : Type 1} (𝓤 : URA M) (H : Heap 𝓤) (A : Atoms 𝓤) (W : Given
       nothing ! $ move ! (3 ∷ 0 ∷ []) $ join ! $ move ! (1 ∷ 0 ∷ []) $ join ! $ frame ! $
       nothing ! $ move ! (3 ∷ 0 ∷ []) $ fjoin ! $ owned ! Ro (Is Ro) (order-makes 𝓤 H A) ev _ ge $ fjoin ! $ owned ! Rw (Is Rw) (world-makes 𝓤 H A) w _ gw $ fjoin ! $ move ! (2 ∷ 0 ∷ []) $ fjoin ! $ move ! (1 ∷ 0 ∷ []) $ fjoin ! $ done !
 
-  module _ (C : Calls 𝓤 H) (Λ : Loops 𝓤 H) (fm : FmC 𝓤 H (W .laws) C) (known-asked : Triple 𝓤 (C #worlds·asked) (Asked 𝓤 H A mem run)) (known-act : Triple 𝓤 (C #table·act) (Act 𝓤 H A mem run)) (known-told : Triple 𝓤 (C #worlds·told) (Told 𝓤 H A mem run)) where
+  module _ (C : Calls 𝓤 H) (Λ : Loops 𝓤 H) (fm : FmC 𝓤 H (W .laws) C) (known-asked : Triple 𝓤 (C #asking·asked) (Asked 𝓤 H A mem run)) (known-act : Triple 𝓤 (C #table·act) (Act 𝓤 H A mem run)) (known-told : Triple 𝓤 (C #noting·told) (Told 𝓤 H A mem run)) where
     walk : Room R (length (xt .now)) → Room u64 (length (xv .now)) → Room u64 (length (xf .now)) → Room u8 (length (xs .now)) → Room u8 (length (xo .now)) → Is Rw w (world-val w ∷ [])
         → ent 𝓤 (onEntry 𝓤 H A f.signature κs qs x at) (WpFn 𝓤 H C Λ code.function (vt ∷ vv ∷ vf ∷ vs ∷ vo ∷ world-val w ∷ []) Post)
     walk rt rv rf rs ro gw =
@@ -235,7 +238,7 @@ module _ {M : Type 1} (𝓤 : URA M) (H : Heap 𝓤) (A : Atoms 𝓤) (W : Given
         keep ! (0 ∷ 1 ∷ 4 ∷ 2 ∷ 5 ∷ 6 ∷ 8 ∷ 9 ∷ 11 ∷ []) $ by ! (exits r₃ v₃ d (ts .0) (us .0) (os .0) (os .1 .0) gw (e₁ .1 ∙ ap (λ (z : Order). listed (w .views) (z .what) (xv .now)) (e₁ .0)) e₂ e₃ lt lv lf lo)))))))))))))))))))))))))))))))))))))
 
 module _ {M : Type 1} (𝓤 : URA M) (H : Heap 𝓤) (A : Atoms 𝓤) (W : Given 𝓤 H A) (mem : Memory → SProp 𝓤) (run : Routine → Fun 𝓤) (𝓣 : Tables 𝓤 H)
-    (known-asked : Triple 𝓤 (𝓣 .C #worlds·asked) (Asked 𝓤 H A mem run)) (known-act : Triple 𝓤 (𝓣 .C #table·act) (Act 𝓤 H A mem run)) (known-told : Triple 𝓤 (𝓣 .C #worlds·told) (Told 𝓤 H A mem run)) where
+    (known-asked : Triple 𝓤 (𝓣 .C #asking·asked) (Asked 𝓤 H A mem run)) (known-act : Triple 𝓤 (𝓣 .C #table·act) (Act 𝓤 H A mem run)) (known-told : Triple 𝓤 (𝓣 .C #noting·told) (Told 𝓤 H A mem run)) where
   walks : Walks 𝓤 H A f.ended stayed (WpFn 𝓤 H (𝓣 .C) (𝓣 .Λ) code.function) (f.clauses 𝓤 H A mem run)
   walks = walked 𝓤 H A f.ended stayed (f.clauses 𝓤 H A mem run) (WpFn 𝓤 H (𝓣 .C) (𝓣 .Λ) code.function) (λ κs. (slice-vals, (slice-vals, (slice-vals, (slice-vals, (slice-vals, ((λ w. world-val w ∷ []), tt)))))))
       (λ κs. (mut-slice-tells (named 0) (κs .0) R, (mut-slice-tells (named 1) (κs .1 .0) u64, (mut-slice-tells (named 2) (κs .1 .1 .0) u64, (shr-slice-tells (named 3) (κs .1 .1 .1 .0) u8, (mut-slice-tells (named 4) (κs .1 .1 .1 .1 .0) u8, (world-tells, tt)))))))
@@ -255,6 +258,6 @@ turn-spec 𝓤 H 𝓜 𝓖 𝓡 =
     entered 𝓤 H (tripleOf 𝓤 H (𝓖 .A) f.signature (f.spec 𝓤 H (𝓖 .A) (𝓜 .mem) (𝓡 .run)))
     (tables 𝓤 H 𝓜 𝓡 code.env .C) (tables 𝓤 H 𝓜 𝓡 code.env .Λ) #table·turn code.function (code.unfolded 𝓤 H 𝓜 𝓡)
     (meets 𝓤 H (𝓖 .A) (givenOf 𝓤 H 𝓜 𝓖) (𝓜 .mem) (𝓡 .run) (tablesOf 𝓤 H 𝓜 (tables 𝓤 H 𝓜 𝓡 code.env))
-    (cited 𝓤 H (Asked 𝓤 H (𝓖 .A) (𝓜 .mem) (𝓡 .run)) 𝓜 𝓡 code.env #worlds·asked asked-def.routine code.calls-worlds·asked (asked-thm.met 𝓤 H 𝓜 𝓖 𝓡))
+    (cited 𝓤 H (Asked 𝓤 H (𝓖 .A) (𝓜 .mem) (𝓡 .run)) 𝓜 𝓡 code.env #asking·asked asked-def.routine code.calls-asking·asked (asked-thm.met 𝓤 H 𝓜 𝓖 𝓡))
     (cited 𝓤 H (Act 𝓤 H (𝓖 .A) (𝓜 .mem) (𝓡 .run)) 𝓜 𝓡 code.env #table·act act-def.routine code.calls-table·act (act-thm.met 𝓤 H 𝓜 𝓖 𝓡))
-    (cited 𝓤 H (Told 𝓤 H (𝓖 .A) (𝓜 .mem) (𝓡 .run)) 𝓜 𝓡 code.env #worlds·told told-def.routine code.calls-worlds·told (told-thm.met 𝓤 H 𝓜 𝓖 𝓡)))
+    (cited 𝓤 H (Told 𝓤 H (𝓖 .A) (𝓜 .mem) (𝓡 .run)) 𝓜 𝓡 code.env #noting·told told-def.routine code.calls-noting·told (told-thm.met 𝓤 H 𝓜 𝓖 𝓡)))

@@ -1,9 +1,9 @@
 -- Whatever the parts, the bench comes to what the whole input makes of it. What is held and the whole of the line begun are alike: the same, or both so long that
 -- the line is no event wherever it ends. By induction on the text, and then on the parts.
-use mathlib.Core.Path.{_≡_, refl, sym, ap, _∙_}
 use mathlib.Core.Bool.{Bool, true, false, cond, _&&_}
 use mathlib.Core.List.{List, [], _∷_, _++_, append-assoc}
 use mathlib.Core.Logic.{_⊎_, inl, inr, ⊎-elim}
+use mathlib.Core.Path.{_≡_, refl, sym, ap, _∙_}
 use Prim.Native.Nat.{ℕ, _≤_, _<_}
 use native.Mathlib.Omega.{arith}
 use borrow.Author.Tests.{eqb-true, ne-eqb, lt-ltb, le-ltb}
@@ -20,7 +20,8 @@ use Rattle.stream.proofs.Laws.Parts.{NoEnd, none-nil, none-snoc, none-take, non
 use Rattle.events.specs.declared.Event.{Event}
 use Rattle.events.specs.declared.Event.the-variants as event
 use Rattle.events.specs.Events.{byteAt, groupEvent, viewEvent, enterEvent, stateEvent, decideEvent, attemptEvent, formEvent, cutEvent, recoverEvent, ofKind, eventOf}
-use Rattle.worlds.specs.Bench.{Bench, eventIn, happens, taken, played}
+use Rattle.asking.specs.Asking.{eventIn}
+use Rattle.worlds.specs.Bench.{Bench, happens, taken, played}
 use Rattle.worlds.specs.Parts.{runs, AnyParts}
 
 -- ---- a long line is no event

@@ -16,19 +16,23 @@ use Rattle.group.specs.Words.{session}
 use Rattle.lines.specs.Hex.{lineEnd}
 use Rattle.lines.specs.Walk.{wholeLines, begun}
 use Rattle.events.specs.declared.Event.{Event}
+use Rattle.deeds.specs.declared.Deed.{Deed}
+use Rattle.deeds.specs.declared.What.{What}
+use Rattle.deeds.specs.declared.What.the-variants as what
+use Rattle.deeds.specs.Told.{Told, told}
+use Rattle.formed.specs.Formed.{noted}
+use Rattle.views.specs.Views.{listed}
+use Rattle.printing.specs.Texts.{toldText}
+use Rattle.asking.specs.declared.World.{World}
+use Rattle.asking.specs.declared.Order.{Order}
+use Rattle.asking.specs.Asking.{toOf, fromOf, whatOf, eventIn, left, startOrder, orderFor, lineNow, nextNow, orderOf}
+use Rattle.asking.proofs.Laws.{announce-room, event-named}
+use Rattle.noting.specs.Noting.{keptBy, onward, oneStarted, worldAfter, Noted}
 use Rattle.seat.specs.declared.Seat.{Seat}
-use Rattle.seat.specs.declared.Deed.{Deed}
-use Rattle.seat.specs.declared.What.{What}
-use Rattle.seat.specs.declared.What.the-variants as what
-use Rattle.seat.specs.Played.{Played, Told, told, starts, playedBy}
-use Rattle.worlds.specs.declared.World.{World}
-use Rattle.worlds.specs.declared.Order.{Order}
-use Rattle.worlds.specs.Formed.{noted}
-use Rattle.worlds.specs.Texts.{toldText}
-use Rattle.worlds.specs.Bench.{Bench, seatAt, startLast, toOf, fromOf, whatOf, opens, allStarted, newViews, acts, obeyed, happens, eventIn, taken, played}
-use Rattle.worlds.specs.Desk.{benchOf, left, startOrder, orderFor, lineNow, nextNow, orderOf, listed, keptBy, onward, oneStarted, worldAfter, Noted, Ready, turnOf, toGo, Turned}
-use Rattle.worlds.proofs.Laws.Views.{announce-room}
-use Rattle.worlds.proofs.Laws.Line.{event-named, has-line, played-first, ends-next}
+use Rattle.seat.specs.Played.{Played, starts, playedBy}
+use Rattle.worlds.specs.Bench.{Bench, seatAt, startLast, opens, allStarted, newViews, acts, obeyed, happens, taken, played}
+use Rattle.worlds.specs.Desk.{benchOf, Ready, turnOf, toGo, Turned}
+use Rattle.worlds.proofs.Laws.Line.{has-line, played-first, ends-next}
 
 -- ---- what the bench itself keeps, field by field
 

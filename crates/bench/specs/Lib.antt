@@ -1,2 +1,0 @@
--- The program's loop over its reads.
-pub mod Program

@@ -1,0 +1,2 @@
+-- What the program `frames` prints.
+pub mod Shown
