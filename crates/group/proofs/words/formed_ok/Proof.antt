@@ -1,4 +1,8 @@
 -- The test is the definition, part by part, with numbers in place of ranks.
+use mathlib.Core.Path.{ap}
+use mathlib.Core.Bool.{Bool, not, _&&_, _||_}
+use lib.Dec.{eqb}
+use Rattle.group.specs.Heads.{has}
 use Rattle.group.specs.Words.{formedOk}
 use Rattle.group.proofs.Laws.Formed.{lower-test}
 use borrow.Author.Needs.{needs}
@@ -30,8 +34,10 @@ returns c =
       c .before .before .has-head3 .ensures,
       c .before .before .before .has-head2 .ensures,
       c .before .before .before .before .has-head .ensures,
-      lower-test (a .own) (a .p) (a .q) (a .w),
     )
+    (ap
+    (λ (lower : Bool). (has (a .p) (a .q) && eqb (a .w) (a .p)) || (not (has (a .p) (a .q)) && (eqb (a .w) 0 || lower)))
+    (lower-test (a .own) (a .p) (a .q) (a .w)))
 
 pub formed-ok-spec : {M : Type 1} → statement M
 formed-ok-spec =
