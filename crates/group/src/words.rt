@@ -1,5 +1,6 @@
 // Session words: heads in bits 0 to 15, the number above; 0 for none.
 ghost use mathlib.Core.Path.{_≡_};
+ghost use mathlib.Core.Bool.{cond};
 ghost use Prim.Native.Nat.{_<_, max};
 ghost use Rattle.group.specs.Heads.{has, within};
 ghost use Rattle.group.specs.Words.{heads, num, session, rank, primaryOk, formedOk};
@@ -75,12 +76,24 @@ pub fn primary_ok(own: usize, p: u64) -> bool
     (p == 0) | has_head(p, own)
 }
 
-// Last formed w for head q, of head own with last primary p. No branch: rule 5 asks it of sixteen words at once.
+// What last formed for q nearly always is: last primary for its heads, none for the others.
+pub fn usual_formed(p: u64, q: usize) -> u64
+    requires { ⌜ q < 16 ⌝ }
+    ensures { λ r. ⌜ r ≡ cond (has p q) p 0 ⌝ }
+{
+    if has_head(p, q) {
+        return p;
+    }
+    0
+}
+
+// Last formed w for head q, of head own with last primary p. No branch: rule 5 asks it of sixteen words at once. Of a session with a head, numbers order as ranks do.
 pub fn formed_ok(own: usize, p: u64, q: usize, w: u64) -> bool
     requires { ⌜ (own < 16) × (q < 16) ⌝ }
     ensures { λ r. ⌜ r ≡ formedOk own p q w ⌝ }
 {
     let among = has_head(p, q);
     (among & (w == p))
-        | (!among & ((w == 0) | (has_head(w, own) & has_head(w, q) & (rank_of(w) < rank_of(p)))))
+        | (!among
+            & ((w == 0) | (has_head(w, own) & has_head(w, q) & (number_of(w) < number_of(p)))))
 }

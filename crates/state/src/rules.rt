@@ -7,11 +7,14 @@ use group::words::number_of;
 use group::words::primary_ok;
 use group::words::rank_of;
 use group::words::sound;
+use group::words::usual_formed;
 ghost use mathlib.Core.Path.{_≡_};
+ghost use mathlib.Core.Bool.{cond, _&&_};
 ghost use Prim.Native.Nat.{_≤_, _<_};
 ghost use lib.ListN.{getD};
 ghost use lib.Dec.{leb, eqb};
 ghost use Rattle.loops.specs.Below.{allBelow};
+ghost use Rattle.group.specs.Heads.{has};
 ghost use Rattle.group.specs.Words.{num, formedOk};
 ghost use Rattle.group.specs.Words.{sound as soundOf};
 ghost use Rattle.state.specs.Rules.{placeOk, prior, keepsRules};
@@ -41,6 +44,17 @@ fn all_within(words: [u64; Group::HEADS], n: usize, top: u64) -> bool
     ok
 }
 
+// Every last formed is what it nearly always is.
+fn all_usual(p: u64, words: [u64; Group::HEADS]) -> bool
+    ensures { λ r. ⌜ r ≡ allBelow 16 (λ q. eqb (getD words q 0) (cond (has p q) p 0)) ⌝ }
+{
+    let mut ok = true;
+    for q in 0..Group::HEADS {
+        ok = ok & (words[q] == usual_formed(p, q));
+    }
+    ok
+}
+
 fn all_formed_ok(own: usize, p: u64, words: [u64; Group::HEADS]) -> bool
     requires { ⌜ own < 16 ⌝ }
     ensures { λ r. ⌜ r ≡ allBelow 16 (λ q. formedOk own p q (getD words q 0)) ⌝ }
@@ -52,6 +66,17 @@ fn all_formed_ok(own: usize, p: u64, words: [u64; Group::HEADS]) -> bool
     ok
 }
 
+// Last formed of head own with last primary p. The usual words are tried first: to tell them takes fewer instructions.
+fn formed_kept(own: usize, p: u64, words: [u64; Group::HEADS]) -> bool
+    requires { ⌜ own < 16 ⌝ }
+    ensures { λ r. ⌜ r ≡ allBelow 16 (λ q. formedOk own p q (getD words q 0)) ⌝ }
+{
+    if all_usual(p, words) {
+        return true;
+    }
+    all_formed_ok(own, p, words)
+}
+
 // A place of head own with last primary p, after the place before it.
 fn place_ok(own: usize, p: u64, before: u64, w: u64) -> bool
     requires { ⌜ own < 16 ⌝ }
@@ -60,9 +85,9 @@ fn place_ok(own: usize, p: u64, before: u64, w: u64) -> bool
     (number_of(before) < number_of(w)) & (rank_of(p) < rank_of(w)) & has_head(w, own)
 }
 
-fn all_place_ok(own: usize, p: u64, words: [u64; Group::HEADS], n: usize) -> bool
+fn all_place_ok(own: usize, p: u64, words: &[u64; Group::HEADS], n: usize) -> bool
     requires { ⌜ (own < 16) × (n ≤ 16) ⌝ }
-    ensures { λ r. ⌜ r ≡ allBelow n (λ i. placeOk own p (prior words i) (getD words i 0)) ⌝ }
+    ensures { λ r. ⌜ r ≡ allBelow n (λ i. placeOk own p (prior (now (words .entry)) i) (getD (now (words .entry)) i 0)) ⌝ }
 {
     let mut ok = true;
     let mut before: u64 = 0;
@@ -88,7 +113,7 @@ fn rule5(st: State, sender: usize) -> bool
     ensures { λ r. ⌜ r ≡ rule5Of st sender ⌝ }
 {
     let formed = st.formed;
-    primary_ok(sender, st.primary) & all_formed_ok(sender, st.primary, formed)
+    primary_ok(sender, st.primary) & formed_kept(sender, st.primary, formed)
 }
 
 fn rule6(st: State, sender: usize) -> bool
@@ -96,7 +121,7 @@ fn rule6(st: State, sender: usize) -> bool
     ensures { λ r. ⌜ r ≡ rule6Of st sender ⌝ }
 {
     let places = st.places;
-    all_place_ok(sender, st.primary, places, st.count)
+    all_place_ok(sender, st.primary, &places, st.count)
 }
 
 fn rule7(st: State) -> bool
@@ -111,28 +136,32 @@ fn rule7(st: State) -> bool
         & all_within(places, st.count, top)
 }
 
-// The word before place n, 0 before the first.
-fn prior_of(words: [u64; Group::HEADS], n: usize) -> u64
-    requires { ⌜ n ≤ 16 ⌝ }
-    ensures { λ r. ⌜ r ≡ prior words n ⌝ }
+// Rule 6, and that the last place's number is not above the session number. Places are copied only where there are some.
+fn places_kept(st: State, sender: usize) -> bool
+    requires { ⌜ (sender < 16) × (st .count ≤ 16) ⌝ }
+    ensures { λ r. ⌜ r ≡ (leb (num (prior (st .places) (st .count))) (st .number) && rule6Of st sender) ⌝ }
 {
-    if n == 0 {
-        return 0;
+    let count = st.count;
+    if count == 0 {
+        return true;
     }
-    words[n - 1]
+    let places = st.places;
+    let top = st.number as u64;
+    (number_of(places[count - 1]) <= top) & all_place_ok(sender, st.primary, &places, count)
 }
 
-// The state keeps rules 4 to 7, by those of their tests from which the others follow.
+// The state keeps rules 4 to 7, by those of their tests from which the others follow. Rule 5 is asked of its parts, so that the state is not copied for it.
 fn keeps_all(st: State, sender: usize) -> bool
     requires { ⌜ (sender < 16) × (st .count ≤ 16) ⌝ }
     ensures { λ r. ⌜ r ≡ eqb (brokenOf st sender) 0 ⌝ }
 {
-    let places = st.places;
+    let formed = st.formed;
+    let p = st.primary;
     let top = st.number as u64;
-    (number_of(st.primary) <= top)
-        & (number_of(prior_of(places, st.count)) <= top)
-        & rule5(st, sender)
-        & rule6(st, sender)
+    (number_of(p) <= top)
+        & primary_ok(sender, p)
+        & formed_kept(sender, p, formed)
+        & places_kept(st, sender)
 }
 
 // The first of rules 4 to 7 that the state breaks, each rule by all of its tests.

@@ -12,6 +12,7 @@ use group::words::number_of;
 use group::words::primary_ok;
 use group::words::rank_of;
 use group::words::sound;
+use group::words::usual_formed;
 use record::layout::core;
 use record::layout::entered;
 use record::layout::formed_for;
@@ -23,11 +24,9 @@ use record::layout::place_at;
 use record::layout::primary;
 use record::layout::settings;
 ghost use mathlib.Core.Path.{_≡_};
-ghost use mathlib.Core.Bool.{cond};
 ghost use Prim.Native.Nat.{_<_};
 ghost use lib.ListN.{length};
 ghost use Rattle.loops.specs.Below.{allBelow};
-ghost use Rattle.group.specs.Heads.{has};
 ghost use Rattle.group.specs.Words.{sessionWord};
 ghost use Rattle.group.specs.Quorum.{isGroup};
 ghost use Rattle.record.specs.Whole.{groupWhole, limitsWhole, primaryWhole, formedWhole, usedOk, placeWhole, apartWhole, topWhole, marksOk, marksWhole, whole};
@@ -68,17 +67,6 @@ fn primary_whole(rec: &[u64]) -> bool
 {
     let p = primary(rec);
     session_word(p) & primary_ok(own(rec), p)
-}
-
-// What last formed for q nearly always is: last primary for its heads, none for the others.
-fn usual_formed(p: u64, q: usize) -> u64
-    requires { ⌜ q < 16 ⌝ }
-    ensures { λ r. ⌜ r ≡ cond (has p q) p 0 ⌝ }
-{
-    if has_head(p, q) {
-        return p;
-    }
-    0
 }
 
 fn formed_whole(rec: &[u64], q: usize) -> bool

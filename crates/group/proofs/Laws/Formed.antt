@@ -1,16 +1,16 @@
 -- Last formed as it stands beside a last primary: the three cases of `formedOk`, both ways, and that its number is at most the last primary's.
-use mathlib.Core.Path.{_≡_, ap, _∙_}
+use mathlib.Core.Path.{_≡_, sym, ap, _∙_}
 use mathlib.Core.Bool.{true, false, not, cond, _&&_}
 use mathlib.Core.Logic.{⊎-elim}
 use Prim.Native.Nat.{ℕ, _<_, _≤_}
-use native.Mathlib.Nat.{lt-irrefl}
 use native.Mathlib.Omega.{arith}
 use lib.Dec.{eqb, ltb}
-use borrow.Author.Tests.{eq-eqb, eqb-true, eqb-false, ltb-true, lt-ltb}
-use Rattle.loops.proofs.Laws.Truth.{and-left, and-right, and-both, or-cases, or-left, or-right, not-true, passes-or-fails}
+use borrow.Author.Tests.{eq-eqb, eqb-true, ltb-true, lt-ltb, le-ltb}
+use Rattle.loops.proofs.Laws.Truth.{and-left, and-right, and-both, or-cases, or-left, or-right, not-true, not-both, test-ext, passes-or-fails}
 use Rattle.group.specs.Heads.{has}
 use Rattle.group.specs.Words.{num, rank, formedOk}
-use Rattle.group.proofs.Laws.Words.{rank-le-num}
+use Rattle.group.proofs.Laws.Heads.{has-none}
+use Rattle.group.proofs.Laws.Words.{rank-none, rank-some, none-or-some, rank-le-num}
 
 -- last primary; or none; or a session with own head, q and a lower number
 pub data Formed (own p q w : ℕ) : Type 0 where
@@ -49,6 +49,23 @@ formed-usual own p q w e =
     (λ t. formed-of own p q w (member t (rw t at e)))
     (λ f. formed-of own p q w (none f (rw f at e)))
     (passes-or-fails (has p q))
+
+-- of a session with a head, a lower number is a lower rank
+rank-order : (w p : ℕ) → (w ≡ 0 → ⊥) → ltb (num w) (num p) ≡ ltb (rank w) (rank p)
+rank-order w p h =
+    ⊎-elim
+    (λ z. le-ltb (num w) (num p) (omega arith) ∙ sym (le-ltb (rank w) (rank p) (omega (arith, ap rank z ∙ rank-none))))
+    (λ s.
+    let r = rank-some w h in
+    test-ext _ _ (λ t. lt-ltb (rank w) (rank p) (omega (arith, ltb-true (num w) (num p) t))) (λ t. lt-ltb (num w) (num p) (omega (arith, ltb-true (rank w) (rank p) t))))
+    (none-or-some p)
+
+pub lower-test : (own p q w : ℕ) → (has w own && has w q && ltb (num w) (num p)) ≡ (has w own && has w q && ltb (rank w) (rank p))
+lower-test own p q w =
+    ⊎-elim
+    (λ t. rw (rank-order w p (λ z. not-both (has w own) t (ap (λ (v : ℕ). has v own) z ∙ has-none own))))
+    (λ f. rw f)
+    (passes-or-fails (has w own))
 
 -- a lower rank has a number that is no higher
 pub lower-number : (w p : ℕ) → rank w < rank p → num w ≤ num p

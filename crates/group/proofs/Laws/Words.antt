@@ -1,10 +1,10 @@
 -- Laws of session words: a word is its number and its heads, ranks order them, and the highest of a table is the first of the greatest rank.
-use mathlib.Core.Path.{_≡_, refl, sym, ap, _∙_}
+use mathlib.Core.Path.{_≡_, refl, ap, _∙_}
 use mathlib.Core.Logic.{_⊎_, inl, inr, ⊎-elim}
-use Prim.Native.Nat.{ℕ, zero, suc, _+_, _-_, _*_, _/_, _%_, _^_, _<_, _≤_}
+use Prim.Native.Nat.{ℕ, zero, suc, _+_, _-_, _/_, _%_, _^_, _<_, _≤_}
 use native.Mathlib.Nat.{le-refl, le-trans, le-suc, not-suc-le-zero, lt-irrefl, eq-zero-or-pos}
 use native.Mathlib.Omega.{arith}
-use lib.Dec.{eqb, ltb}
+use lib.Dec.{eqb}
 use lib.Pow.{field, mod-mod-pow}
 use borrow.Author.Tests.{ne-eqb, lt-ltb, le-ltb}
 use Rattle.loops.specs.Below.{foldBelow}

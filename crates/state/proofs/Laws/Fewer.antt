@@ -13,7 +13,7 @@ use lib.Dec.{leb, eqb}
 use Rattle.loops.specs.Below.{allBelow}
 use Rattle.loops.proofs.Laws.Truth.{and-left, and-right, and-both, or-cases, or-right, not-both, test-ext}
 use Rattle.loops.proofs.Laws.Order.{below-suc}
-use Rattle.loops.proofs.Laws.Tests.{all-at}
+use Rattle.loops.proofs.Laws.Tests.{all-at, all-of}
 use Rattle.group.specs.Heads.{has}
 use Rattle.group.specs.Words.{heads, num, sound, primaryOk, formedOk}
 use Rattle.group.proofs.Laws.Heads.{has-none}
@@ -57,10 +57,6 @@ unfolding prior
 last-highest places zero top r l i h = absurd (not-suc-le-zero h)
 last-highest places (suc n) top r l i h = ⊎-elim (λ e. rw e l) (λ k. omega (arith, r i n k (omega arith))) (below-suc h)
 
-pub prior-none : (places : List ℕ) (n : ℕ) → n ≡ 0 → 0 ≡ prior places n
-unfolding prior
-prior-none places n e = rw e
-
 pub prior-some : (places : List ℕ) (n : ℕ) → (n ≡ 0 → ⊥) → getD places (n - 1) 0 ≡ prior places n
 unfolding prior
 prior-some places zero h = absurd (h refl)
@@ -70,6 +66,14 @@ last-within : (places : List ℕ) (n top : ℕ) → ((i : ℕ) → i < n → num
 unfolding prior
 last-within places zero top f = omega arith
 last-within places (suc n) top f = f n (omega arith)
+
+-- without places there is nothing to test
+pub no-places : (st : State) (sender : ℕ) → st .count ≡ 0 → (leb (num (prior (st .places) (st .count))) (st .number) && rule6 st sender) ≡ true
+unfolding rule6
+no-places st sender e =
+    and-both _ _
+    (le-leb _ _ (last-within (st .places) (st .count) (st .number) (λ i h. absurd (not-suc-le-zero (rw e at h)))))
+    (all-of (st .count) _ (λ i h. absurd (not-suc-le-zero (rw e at h))))
 
 -- ---- all of the rules
 
@@ -98,27 +102,30 @@ module _ (st : State) (sender : ℕ) (h : sender < 16) (c : st .count ≤ 16) wh
       }
 
   pub fewer-tests
-      : (leb (num (st .primary)) (st .number) && leb (num (prior (st .places) (st .count))) (st .number) && rule5 st sender && rule6 st sender)
+      : (leb (num (st .primary)) (st .number)
+      && primaryOk sender (st .primary)
+      && allBelow 16 (λ q. formedOk sender (st .primary) q (formed st q))
+      && (leb (num (prior (st .places) (st .count))) (st .number) && rule6 st sender))
       ≡ eqb (broken st sender) 0
-  unfolding keepsRules
+  unfolding keepsRules rule5
   fewer-tests =
-      let p = leb (num (st .primary)) (st .number) in
+      let n = leb (num (st .primary)) (st .number) in
+      let p = primaryOk sender (st .primary) in
+      let f = allBelow 16 (λ q. formedOk sender (st .primary) q (formed st q)) in
       let l = leb (num (prior (st .places) (st .count))) (st .number) in
-      let five = rule5 st sender in
       let six = rule6 st sender in
       let b = eqb (broken st sender) 0 in
-      test-ext (p && l && five && six) b
+      test-ext (n && p && f && (l && six)) b
       (λ t.
-      let u = and-left (p && l && five) six t in
-      let v = and-left (p && l) five u in
+      let u = and-left (n && p && f) (l && six) t in
+      let v = and-left (n && p) f u in
+      let w = and-right (n && p && f) (l && six) t in
       and-right (leb (st .count) 16) b
       (keeps st sender
-      (enough (and-right (p && l) five u) (and-right (p && l && five) six t) (leb-true _ _ (and-left p l v)) (leb-true _ _ (and-right p l v)))))
+      (enough (and-both p f (and-right n p v) (and-right (n && p) f u)) (and-right l six w) (leb-true _ _ (and-left n p v)) (leb-true _ _ (and-left l six w)))))
       (λ e.
       let t = unbroken st sender (eqb-true _ _ e) in
       let k = kept st sender (and-both (leb (st .count) 16) b (le-leb _ _ c) e) in
-      and-both (p && l && five) six
-      (and-both (p && l) five
-      (and-both p l (le-leb _ _ (k .primary-number)) (le-leb _ _ (last-within (st .places) (st .count) (st .number) (k .place-number))))
-      (t .five))
-      (t .six))
+      and-both (n && p && f) (l && six)
+      (and-both (n && p) f (and-both n p (le-leb _ _ (k .primary-number)) (k .primary-ok)) (all-of 16 _ (k .formed-ok)))
+      (and-both l six (le-leb _ _ (last-within (st .places) (st .count) (st .number) (k .place-number))) (t .six)))

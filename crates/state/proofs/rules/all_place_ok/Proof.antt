@@ -12,10 +12,10 @@ use Rattle.state.proofs.rules.all_place_ok.Statement.{statement}
 use Rattle.state.proofs.rules.all_place_ok.Tie as tie
 
 abbrev Inv-loop : tie.InvT-loop
-Inv-loop own p n words ok₀ before₀ i₀ ok before i = (i ≤ n) × (ok ≡ allBelow i (λ k. placeOk own p (prior words k) (getD words k 0))) × (before ≡ prior words i)
+Inv-loop own p words n ok₀ before₀ i₀ ok before i = (i ≤ n) × (ok ≡ allBelow i (λ k. placeOk own p (prior words k) (getD words k 0))) × (before ≡ prior words i)
 
 abbrev μ-loop : tie.MeasureT-loop
-μ-loop own p n words ok₀ before₀ i₀ ok before i = n - i
+μ-loop own p words n ok₀ before₀ i₀ ok before i = n - i
 
 loop-holds : tie.Need-loop-holds Inv-loop μ-loop
 unfolding prior
@@ -24,8 +24,8 @@ loop-holds c = (search needs, sym (all-none _), refl)
 mul-w : tie.Need-mul-w Inv-loop μ-loop
 mul-w c = search needs
 
-array-read-w : tie.Need-array-read-w Inv-loop μ-loop
-array-read-w c = search needs
+element-copy-out-w : tie.Need-element-copy-out-w Inv-loop μ-loop
+element-copy-out-w c = search needs
 
 place-ok-requires : tie.Need-place-ok-requires Inv-loop μ-loop
 place-ok-requires c κs = search needs
@@ -39,7 +39,7 @@ loop-less c = search needs
 loop-again : tie.Need-loop-again Inv-loop μ-loop
 unfolding prior
 loop-again c =
-    let l = c .before .before .loop in
+    let l = c .before .before .before .loop in
     (search needs, all-again _ _ (l .inv .1) (c .place-ok .ensures ∙ rw (l .inv .2)), rw (add-one (l .i)))
 
 returns : tie.Need-returns Inv-loop μ-loop
@@ -53,7 +53,7 @@ all-place-ok-spec =
     μ-loop
     loop-holds
     mul-w
-    array-read-w
+    element-copy-out-w
     place-ok-requires
     add-i
     loop-less

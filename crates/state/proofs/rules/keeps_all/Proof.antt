@@ -11,23 +11,20 @@ cast-top c = search needs
 number-of-requires : tie.Need-number-of-requires
 number-of-requires c κs = search needs
 
-prior-of-requires : tie.Need-prior-of-requires
-prior-of-requires c κs = search needs
+primary-ok-requires : tie.Need-primary-ok-requires
+primary-ok-requires c κs = search needs
 
-number-of-requires-2 : tie.Need-number-of-requires-2
-number-of-requires-2 c κs = search needs
+formed-kept-requires : tie.Need-formed-kept-requires
+formed-kept-requires c κs = search needs
 
-rule5-requires : tie.Need-rule5-requires
-rule5-requires c κs = search needs
-
-rule6-requires : tie.Need-rule6-requires
-rule6-requires c κs = search needs
+places-kept-requires : tie.Need-places-kept-requires
+places-kept-requires c κs = search needs
 
 returns : tie.Need-returns
 returns c =
-    let n = c .before .before in
-    let a = n .before .before .before .before .before .args in
-    rw (n .before .before .number-of .ensures, n .number-of2 .ensures, n .before .prior-of .ensures, c .before .rule5 .ensures, c .rule6 .ensures)
+    let n = c .before .before .before in
+    let a = n .before .before .before .args in
+    rw (n .number-of .ensures, c .before .before .primary-ok .ensures, c .before .formed-kept .ensures, c .places-kept .ensures)
     (fewer-tests (a .st) (a .sender) (omega arith) (omega arith))
 
 pub keeps-all-spec : {M : Type 1} → statement M
@@ -36,8 +33,7 @@ keeps-all-spec =
     (tie.spec
     cast-top
     number-of-requires
-    prior-of-requires
-    number-of-requires-2
-    rule5-requires
-    rule6-requires
+    primary-ok-requires
+    formed-kept-requires
+    places-kept-requires
     returns)

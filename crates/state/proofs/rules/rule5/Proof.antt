@@ -7,12 +7,12 @@ use Rattle.state.proofs.rules.rule5.Tie as tie
 primary-ok-requires : tie.Need-primary-ok-requires
 primary-ok-requires c κs = search needs
 
-all-formed-ok-requires : tie.Need-all-formed-ok-requires
-all-formed-ok-requires c κs = search needs
+formed-kept-requires : tie.Need-formed-kept-requires
+formed-kept-requires c κs = search needs
 
 returns : tie.Need-returns
 unfolding rule5
-returns c = rw (c .before .primary-ok .ensures, c .all-formed-ok .ensures)
+returns c = rw (c .before .primary-ok .ensures, c .formed-kept .ensures)
 
 pub rule5-spec : {M : Type 1} → statement M
-rule5-spec = tie.close (tie.spec primary-ok-requires all-formed-ok-requires returns)
+rule5-spec = tie.close (tie.spec primary-ok-requires formed-kept-requires returns)

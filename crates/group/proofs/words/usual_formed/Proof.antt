@@ -1,7 +1,7 @@
 -- The two branches are the two values.
 use borrow.Author.Needs.{needs}
-use Rattle.whole.proofs.usual_formed.Statement.{statement}
-use Rattle.whole.proofs.usual_formed.Tie as tie
+use Rattle.group.proofs.words.usual_formed.Statement.{statement}
+use Rattle.group.proofs.words.usual_formed.Tie as tie
 
 has-head-requires : tie.Need-has-head-requires
 has-head-requires c κs = search needs
