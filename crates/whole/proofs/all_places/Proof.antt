@@ -1,16 +1,17 @@
 -- The loop's test so far is `allBelow` up to its turn.
 use Prim.Native.Nat.{_≤_, _-_}
 use mathlib.Core.Path.{_≡_, sym, _∙_}
+use mathlib.Core.Bool.{_&&_}
 use native.Mathlib.Omega.{arith}
-use Rattle.loops.specs.Below.{allBelow}
-use Rattle.loops.proofs.Laws.Tests.{all-none, all-next, all-end}
 use borrow.Author.Needs.{needs}
-use Rattle.record.specs.Whole.{placeWhole}
+use Rattle.loops.specs.Below.{allBelow}
+use Rattle.loops.proofs.Laws.Tests.{all-none, all-again, all-end}
+use Rattle.record.specs.Whole.{placeWhole, apartWhole, marksWhole}
 use Rattle.whole.proofs.all_places.Statement.{statement}
 use Rattle.whole.proofs.all_places.Tie as tie
 
 abbrev Inv-loop : tie.InvT-loop
-Inv-loop rec ok₀ i₀ ok i = (i ≤ 16) × (ok ≡ allBelow i (placeWhole rec))
+Inv-loop rec ok₀ i₀ ok i = (i ≤ 16) × (ok ≡ allBelow i (λ j. placeWhole rec j && apartWhole rec j && marksWhole rec j))
 
 abbrev μ-loop : tie.MeasureT-loop
 μ-loop rec ok₀ i₀ ok i = 16 - i
@@ -28,7 +29,7 @@ loop-less : tie.Need-loop-less Inv-loop μ-loop
 loop-less c = omega arith
 
 loop-again : tie.Need-loop-again Inv-loop μ-loop
-loop-again c = (omega arith, cc (all-next _ (placeWhole _)))
+loop-again c = (omega arith, all-again _ _ (c .before .before .loop .inv .1) (c .place-whole .ensures))
 
 returns : tie.Need-returns Inv-loop μ-loop
 returns c = c .before .loop .inv .1 ∙ all-end _ _ _ (c .before .loop .inv .0) (c .loop-test .left)
