@@ -88,11 +88,12 @@ fn all_formed(rec: &[u64]) -> bool
 {
     let h = own(rec);
     let p = primary(rec);
-    let mut ok = true;
     for q in 0..Group::HEADS {
-        ok = ok & formed_whole(h, p, q, formed_for(rec, q));
+        if !formed_whole(h, p, q, formed_for(rec, q)) {
+            return false;
+        }
     }
-    ok
+    true
 }
 
 // A used place w. It is a session word: it has own head, and its number is at most the session number, which is within the limits.
@@ -120,11 +121,12 @@ fn apart_whole(rec: &[u64], i: usize) -> bool
     ensures { λ r. ⌜ r ≡ apartWhole (now (rec .entry)) i ⌝ }
 {
     let n = number_of(place_at(rec, i));
-    let mut ok = true;
     for j in 0..i {
-        ok = ok & (n != number_of(place_at(rec, j)));
+        if n == number_of(place_at(rec, j)) {
+            return false;
+        }
     }
-    ok
+    true
 }
 
 // Place i, the places before it and its marks.
@@ -147,11 +149,12 @@ fn all_places(rec: &[u64]) -> bool
     requires { ⌜ (length (now rec) ≡ 52) × (number (now rec) ≤ 4294967295) ⌝ }
     ensures { λ r. ⌜ r ≡ allBelow 16 (λ i. placeWhole (now (rec .entry)) i && apartWhole (now (rec .entry)) i && marksWhole (now (rec .entry)) i) ⌝ }
 {
-    let mut ok = true;
     for i in 0..Group::PLACES {
-        ok = ok & place_whole(rec, i);
+        if !place_whole(rec, i) {
+            return false;
+        }
     }
-    ok
+    true
 }
 
 // Whether these words, of any length, are a whole record.
