@@ -4,7 +4,6 @@ use group::heads::shared;
 use group::heads::size;
 use group::heads::wide;
 use group::heads::without_head;
-use group::words::formed_ok;
 use group::words::has_head;
 use group::words::heads_of;
 use group::words::lies_in;
@@ -21,11 +20,10 @@ use record::layout::place_at;
 use record::layout::primary;
 use record::layout::settings;
 ghost use mathlib.Core.Path.{_≡_};
-ghost use mathlib.Core.Bool.{true, cond, _&&_};
+ghost use mathlib.Core.Bool.{true, _&&_};
 ghost use Prim.Native.Nat.{_<_, _≤_};
 ghost use lib.ListN.{length};
 ghost use Rattle.loops.specs.Below.{allBelow};
-ghost use Rattle.group.specs.Heads.{has};
 ghost use Rattle.group.specs.Words.{num, sessionWord, formedOk};
 ghost use Rattle.group.specs.Quorum.{isGroup};
 ghost use Rattle.record.specs.Layout.{own, core, least, number, primary, placeAt};
@@ -60,26 +58,18 @@ fn first_whole(rec: &[u64]) -> bool
         & (number_of(p) <= top)
 }
 
-// What last formed for q nearly always is: last primary for its heads, none for the others.
-fn usual_formed(p: u64, q: usize) -> u64
-    requires { ⌜ q < 16 ⌝ }
-    ensures { λ r. ⌜ r ≡ cond (has p q) p 0 ⌝ }
-{
-    if has_head(p, q) {
-        return p;
-    }
-    0
-}
-
 // Last formed w for head q, of head own. Last primary p is a session word, and so is a w that is in order.
 fn formed_whole(own: usize, p: u64, q: usize, w: u64) -> bool
     requires { ⌜ (own < 16) × (q < 16) × (sessionWord p ≡ true) ⌝ }
     ensures { λ r. ⌜ r ≡ (sessionWord w && formedOk own p q w) ⌝ }
 {
-    if w == usual_formed(p, q) {
+    if has_head(p, q) {
+        return w == p;
+    }
+    if w == 0 {
         return true;
     }
-    formed_ok(own, p, q, w)
+    has_head(w, own) & has_head(w, q) & (number_of(w) < number_of(p))
 }
 
 fn all_formed(rec: &[u64]) -> bool
@@ -135,14 +125,13 @@ fn place_whole(rec: &[u64], i: usize) -> bool
     ensures { λ r. ⌜ r ≡ (placeWhole (now (rec .entry)) i && apartWhole (now (rec .entry)) i && marksWhole (now (rec .entry)) i) ⌝ }
 {
     let w = place_at(rec, i);
-    let m = marks_at(rec, i);
     if w == 0 {
-        return m == 0;
+        return marks_at(rec, i) == 0;
     }
     if !used_ok(rec, w) {
         return false;
     }
-    apart_whole(rec, i) & marks_ok(own(rec), w, m)
+    apart_whole(rec, i) & marks_ok(own(rec), w, marks_at(rec, i))
 }
 
 fn all_places(rec: &[u64]) -> bool
