@@ -7,7 +7,7 @@ use group::words::heads_of;
 use group::words::larger;
 use group::words::rank_of;
 use group::words::session_of;
-use members::highest_of;
+use members::higher;
 use members::is_member;
 use members::members_end;
 use members::of_member;
@@ -23,13 +23,13 @@ use store::Pen;
 ghost use mathlib.Core.Path.{_≡_};
 ghost use Prim.Native.Nat.{_<_};
 ghost use lib.ListN.{length};
-ghost use Rattle.loops.specs.Below.{allBelow, table};
+ghost use Rattle.loops.specs.Below.{allBelow};
 ghost use Rattle.group.specs.Answers.{said};
 ghost use Rattle.store.specs.Desk.{desk};
 ghost use Rattle.store.specs.Program.{stepBy};
 ghost use Rattle.state.specs.declared.Held.{Held};
 ghost use Rattle.plan.specs.Members.{heldOf};
-ghost use Rattle.plan.specs.Attempt.{primaryOf, highestNumber, highestPrimary, passesFor, ownWeighed, stateWeighed, listedWeighed, lowestFree, decision, attemptStep};
+ghost use Rattle.plan.specs.Attempt.{highestNumber, highestPrimary, passesFor, ownWeighed, stateWeighed, listedWeighed, lowestFree, decision, attemptStep};
 ghost use Rattle.plan.specs.Attempt.{weighed as weighedBy, quorate as isQuorate};
 
 fn state_number(st: State) -> u64
@@ -38,43 +38,32 @@ fn state_number(st: State) -> u64
     st.number as u64
 }
 
-// The highest session number among the members.
-fn highest_number(rec: &[u64], m: u16, held: Held) -> u64
+// The highest session number among the members, and the highest-numbered of their last primaries.
+struct Highest {
+    number: u64,
+    primary: u64,
+}
+
+// Both in one pass: a function that indexes what is held copies it.
+fn highest_among(rec: &[u64], m: u16, held: Held) -> Highest
     requires { ⌜ length (now rec) ≡ 52 ⌝ }
-    ensures { λ r. ⌜ r ≡ highestNumber m held (now (rec .entry)) ⌝ }
+    ensures { λ r. ⌜ (r .number ≡ highestNumber m held (now (rec .entry))) × (r .primary ≡ highestPrimary m held (now (rec .entry))) ⌝ }
 {
     let p = own(rec);
     let mine = number(rec);
+    let last = primary(rec);
     let end = members_end(m);
     let mut n: u64 = 0;
+    let mut w: u64 = 0;
     for q in 0..end {
         let st = held.of[q];
         n = larger(n, of_member(m, p, q, mine, state_number(st)));
+        w = higher(w, of_member(m, p, q, last, st.primary));
     }
-    n
-}
-
-// The last primary of each member.
-fn primaries(rec: &[u64], m: u16, held: Held) -> [u64; Group::HEADS]
-    requires { ⌜ length (now rec) ≡ 52 ⌝ }
-    ensures { λ r. ⌜ r ≡ table 16 (primaryOf m held (now (rec .entry))) ⌝ }
-{
-    let p = own(rec);
-    let mine = primary(rec);
-    let end = members_end(m);
-    let mut all = [0u64; Group::HEADS];
-    for q in 0..end {
-        let st = held.of[q];
-        all[q] = of_member(m, p, q, mine, st.primary);
+    Highest {
+        number: n,
+        primary: w,
     }
-    all
-}
-
-fn highest_primary(rec: &[u64], m: u16, held: Held) -> u64
-    requires { ⌜ length (now rec) ≡ 52 ⌝ }
-    ensures { λ r. ⌜ r ≡ highestPrimary m held (now (rec .entry)) ⌝ }
-{
-    highest_of(primaries(rec, m, held))
 }
 
 // M passes the quorum test for session w.
@@ -153,11 +142,11 @@ fn all_weighed(rec: &[u64], m: u16, held: Held, top: u64) -> bool
     ok
 }
 
-fn quorate(rec: &[u64], m: u16, held: Held) -> bool
-    requires { ⌜ length (now rec) ≡ 52 ⌝ }
+// M passes for the highest primary, top, and for all that is listed above it.
+fn quorate(rec: &[u64], m: u16, held: Held, top: u64) -> bool
+    requires { ⌜ (length (now rec) ≡ 52) × (top ≡ highestPrimary m held (now rec)) ⌝ }
     ensures { λ r. ⌜ r ≡ isQuorate m held (now (rec .entry)) ⌝ }
 {
-    let top = highest_primary(rec, m, held);
     if !passes_for(rec, m, top) {
         return false;
     }
@@ -188,13 +177,14 @@ pub fn conclude(rec: &mut [u64], pen: Pen, m: u16, held: Held) -> Decided
     requires { ⌜ length (now rec) ≡ 52 ⌝ }
     ensures { λ r. ⌜ (desk (now (rec .exit)) (r .pen) ≡ stepBy (attemptStep m held) (desk (now (rec .entry)) pen)) × (said (r .answer) ≡ decision m held (now (rec .entry))) ⌝ }
 {
-    if !quorate(rec, m, held) {
+    let among = highest_among(rec, m, held);
+    if !quorate(rec, m, held, among.primary) {
         return Decided {
             pen,
             answer: Answer::NoQuorum,
         };
     }
-    let highest = highest_number(rec, m, held);
+    let highest = among.number;
     if Group::TOP <= highest {
         return Decided {
             pen,

@@ -53,7 +53,7 @@ pub fn of_member(m: u16, own: usize, q: usize, mine: u64, theirs: u64) -> u64
 }
 
 // The higher-numbered of two sessions, the first on a tie.
-fn higher(w: u64, v: u64) -> u64
+pub fn higher(w: u64, v: u64) -> u64
     ensures { λ r. ⌜ r ≡ cond (ltb (rank w) (rank v)) v w ⌝ }
 {
     choose(rank_of(w) < rank_of(v), v, w)

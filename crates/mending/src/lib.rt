@@ -139,13 +139,11 @@ fn mends(rec: &[u64]) -> bool
     is_whole(&trial)
 }
 
-// Recovers a cut record, with at most so many stores. A record that the steps do not make whole is refused before the first store.
-pub fn recover(rec: &mut [u64], stores: u64) -> Answer
+// Recovers a record of 52 words, with at most so many stores. One that the steps do not make whole is refused before the first store.
+fn recover_words(rec: &mut [u64], stores: u64) -> Answer
+    requires { ⌜ length (now rec) ≡ 52 ⌝ }
     ensures { λ r. ⌜ outcome (now (rec .exit)) r ≡ recoverSpec (now (rec .entry)) stores ⌝ }
 {
-    if rec.len() != Group::WORDS {
-        return Answer::Refused(Refusal::Record);
-    }
     if !mends(rec) {
         return Answer::Refused(Refusal::Record);
     }
@@ -160,4 +158,17 @@ pub fn recover(rec: &mut [u64], stores: u64) -> Answer
         return Answer::Cut;
     }
     Answer::Recovered
+}
+
+// Recovers a cut record, with at most so many stores. A whole one is left as it is.
+pub fn recover(rec: &mut [u64], stores: u64) -> Answer
+    ensures { λ r. ⌜ outcome (now (rec .exit)) r ≡ recoverSpec (now (rec .entry)) stores ⌝ }
+{
+    if is_whole(rec) {
+        return Answer::Recovered;
+    }
+    if rec.len() != Group::WORDS {
+        return Answer::Refused(Refusal::Record);
+    }
+    recover_words(rec, stores)
 }

@@ -1,6 +1,7 @@
 -- The laws, one file a subject.
 pub mod Layout
 pub mod Whole
+pub mod Fewer
 pub mod Fresh
 pub mod Outcome
 pub mod Start

@@ -4,15 +4,11 @@ use group::heads::shared;
 use group::heads::size;
 use group::heads::wide;
 use group::heads::without_head;
-use group::words::formed_ok;
 use group::words::has_head;
 use group::words::heads_of;
 use group::words::lies_in;
 use group::words::number_of;
 use group::words::primary_ok;
-use group::words::rank_of;
-use group::words::sound;
-use group::words::usual_formed;
 use record::layout::core;
 use record::layout::entered;
 use record::layout::formed_for;
@@ -24,13 +20,14 @@ use record::layout::place_at;
 use record::layout::primary;
 use record::layout::settings;
 ghost use mathlib.Core.Path.{_≡_};
-ghost use Prim.Native.Nat.{_<_};
+ghost use mathlib.Core.Bool.{true, _&&_};
+ghost use Prim.Native.Nat.{_<_, _≤_};
 ghost use lib.ListN.{length};
 ghost use Rattle.loops.specs.Below.{allBelow};
-ghost use Rattle.group.specs.Words.{sessionWord};
+ghost use Rattle.group.specs.Words.{num, sessionWord, formedOk};
 ghost use Rattle.group.specs.Quorum.{isGroup};
+ghost use Rattle.record.specs.Layout.{own, core, least, number, primary, placeAt};
 ghost use Rattle.record.specs.Whole.{groupWhole, limitsWhole, primaryWhole, formedWhole, usedOk, placeWhole, apartWhole, topWhole, marksOk, marksWhole, whole};
-ghost use Rattle.record.specs.Whole.{apart as apartAt};
 
 // W0 is not empty, and Q is from 1 to its size.
 pub fn is_group(core: u16, least: u8) -> bool
@@ -47,159 +44,106 @@ fn group_whole(rec: &[u64]) -> bool
     is_group(core(rec), least(rec)) & (settings(rec) / 16777216 < Group::HEADS as u64)
 }
 
-fn limits_whole(rec: &[u64]) -> bool
+// Words 0 to 3. That last primary is a session word follows: it has own head, or is none, and its number is within the limits.
+fn first_whole(rec: &[u64]) -> bool
     requires { ⌜ length (now rec) ≡ 52 ⌝ }
-    ensures { λ r. ⌜ r ≡ limitsWhole (now (rec .entry)) ⌝ }
-{
-    (entered(rec) <= Group::TOP) & (number(rec) <= Group::TOP)
-}
-
-// Sound, with zeros above bit 47.
-pub fn session_word(w: u64) -> bool
-    ensures { λ r. ⌜ r ≡ sessionWord w ⌝ }
-{
-    sound(w) & (number_of(w) <= Group::TOP)
-}
-
-fn primary_whole(rec: &[u64]) -> bool
-    requires { ⌜ length (now rec) ≡ 52 ⌝ }
-    ensures { λ r. ⌜ r ≡ primaryWhole (now (rec .entry)) ⌝ }
+    ensures { λ r. ⌜ r ≡ (groupWhole (now (rec .entry)) && limitsWhole (now (rec .entry)) && primaryWhole (now (rec .entry)) && topWhole (now (rec .entry))) ⌝ }
 {
     let p = primary(rec);
-    session_word(p) & primary_ok(own(rec), p)
+    let top = number(rec);
+    group_whole(rec)
+        & (entered(rec) <= Group::TOP)
+        & (top <= Group::TOP)
+        & primary_ok(own(rec), p)
+        & (number_of(p) <= top)
 }
 
-fn formed_whole(rec: &[u64], q: usize) -> bool
-    requires { ⌜ (length (now rec) ≡ 52) × (q < 16) ⌝ }
-    ensures { λ r. ⌜ r ≡ formedWhole (now (rec .entry)) q ⌝ }
+// Last formed w for head q, of head own. Last primary p is a session word, and so is a w that is in order.
+fn formed_whole(own: usize, p: u64, q: usize, w: u64) -> bool
+    requires { ⌜ (own < 16) × (q < 16) × (sessionWord p ≡ true) ⌝ }
+    ensures { λ r. ⌜ r ≡ (sessionWord w && formedOk own p q w) ⌝ }
 {
-    let w = formed_for(rec, q);
-    let p = primary(rec);
-    if w == usual_formed(p, q) {
-        return session_word(w);
+    if has_head(p, q) {
+        return w == p;
     }
-    session_word(w) & formed_ok(own(rec), p, q, w)
-}
-
-// A used place w, for own head, the group, last primary p and the session number.
-fn used_ok(own: usize, core: u16, least: u8, p: u64, top: u64, w: u64) -> bool
-    requires { ⌜ own < 16 ⌝ }
-    ensures { λ r. ⌜ r ≡ usedOk own core least p top w ⌝ }
-{
-    let n = number_of(w);
-    let backed = least as u32 <= shared(core, heads_of(w));
-    session_word(w) & has_head(w, own) & backed & (1 <= n) & (rank_of(p) < rank_of(w)) & (n <= top)
-}
-
-fn place_whole(rec: &[u64], i: usize) -> bool
-    requires { ⌜ (length (now rec) ≡ 52) × (i < 16) ⌝ }
-    ensures { λ r. ⌜ r ≡ placeWhole (now (rec .entry)) i ⌝ }
-{
-    let w = place_at(rec, i);
     if w == 0 {
         return true;
     }
-    used_ok(
-        own(rec),
-        core(rec),
-        least(rec),
-        primary(rec),
-        number(rec),
-        w,
-    )
-}
-
-fn apart(rec: &[u64], i: usize, j: usize) -> bool
-    requires { ⌜ (length (now rec) ≡ 52) × (i < 16) × (j < 16) ⌝ }
-    ensures { λ r. ⌜ r ≡ apartAt (now (rec .entry)) i j ⌝ }
-{
-    let a = place_at(rec, i);
-    let b = place_at(rec, j);
-    (a == 0) | (b == 0) | (number_of(a) != number_of(b))
-}
-
-// Place i and the places before it. A free one needs no search.
-fn apart_whole(rec: &[u64], i: usize) -> bool
-    requires { ⌜ (length (now rec) ≡ 52) × (i < 16) ⌝ }
-    ensures { λ r. ⌜ r ≡ apartWhole (now (rec .entry)) i ⌝ }
-{
-    let mut ok = true;
-    if place_at(rec, i) == 0 {
-        return ok;
-    }
-    for j in 0..i {
-        ok = ok & apart(rec, i, j);
-    }
-    ok
-}
-
-fn top_whole(rec: &[u64]) -> bool
-    requires { ⌜ length (now rec) ≡ 52 ⌝ }
-    ensures { λ r. ⌜ r ≡ topWhole (now (rec .entry)) ⌝ }
-{
-    number_of(primary(rec)) <= number(rec)
-}
-
-// The marks m of place w, for own head.
-fn marks_ok(own: usize, w: u64, m: u64) -> bool
-    requires { ⌜ own < 16 ⌝ }
-    ensures { λ r. ⌜ r ≡ marksOk own w m ⌝ }
-{
-    if w == 0 {
-        return m == 0;
-    }
-    lies_in(m, wide(without_head(heads_of(w), own as u8)))
-}
-
-fn marks_whole(rec: &[u64], i: usize) -> bool
-    requires { ⌜ (length (now rec) ≡ 52) × (i < 16) ⌝ }
-    ensures { λ r. ⌜ r ≡ marksWhole (now (rec .entry)) i ⌝ }
-{
-    marks_ok(own(rec), place_at(rec, i), marks_at(rec, i))
+    has_head(w, own) & has_head(w, q) & (number_of(w) < number_of(p))
 }
 
 fn all_formed(rec: &[u64]) -> bool
-    requires { ⌜ length (now rec) ≡ 52 ⌝ }
+    requires { ⌜ (length (now rec) ≡ 52) × (sessionWord (primary (now rec)) ≡ true) ⌝ }
     ensures { λ r. ⌜ r ≡ allBelow 16 (formedWhole (now (rec .entry))) ⌝ }
 {
-    let mut ok = true;
+    let h = own(rec);
+    let p = primary(rec);
     for q in 0..Group::HEADS {
-        ok = ok & formed_whole(rec, q);
+        if !formed_whole(h, p, q, formed_for(rec, q)) {
+            return false;
+        }
     }
-    ok
+    true
+}
+
+// A used place w. It is a session word: it has own head, and its number is at most the session number, which is within the limits.
+fn used_ok(rec: &[u64], w: u64) -> bool
+    requires { ⌜ (length (now rec) ≡ 52) × (number (now rec) ≤ 4294967295) × (w ≡ 0 → ⊥) ⌝ }
+    ensures { λ r. ⌜ r ≡ usedOk (own (now (rec .entry))) (core (now (rec .entry))) (least (now (rec .entry))) (primary (now (rec .entry))) (number (now (rec .entry))) w ⌝ }
+{
+    let n = number_of(w);
+    let low = number_of(primary(rec));
+    let backing = shared(core(rec), heads_of(w));
+    has_head(w, own(rec)) & (least(rec) as u32 <= backing) & (low < n) & (n <= number(rec))
+}
+
+// The marks m of a used place w, for own head.
+fn marks_ok(own: usize, w: u64, m: u64) -> bool
+    requires { ⌜ (own < 16) × (w ≡ 0 → ⊥) ⌝ }
+    ensures { λ r. ⌜ r ≡ marksOk own w m ⌝ }
+{
+    lies_in(m, wide(without_head(heads_of(w), own as u8)))
+}
+
+// Place i, used, and the places before it. A free one has another number: 0.
+fn apart_whole(rec: &[u64], i: usize) -> bool
+    requires { ⌜ (length (now rec) ≡ 52) × (i < 16) × (1 ≤ num (placeAt (now rec) i)) ⌝ }
+    ensures { λ r. ⌜ r ≡ apartWhole (now (rec .entry)) i ⌝ }
+{
+    let n = number_of(place_at(rec, i));
+    for j in 0..i {
+        if n == number_of(place_at(rec, j)) {
+            return false;
+        }
+    }
+    true
+}
+
+// Place i, the places before it and its marks.
+fn place_whole(rec: &[u64], i: usize) -> bool
+    requires { ⌜ (length (now rec) ≡ 52) × (i < 16) × (number (now rec) ≤ 4294967295) ⌝ }
+    ensures { λ r. ⌜ r ≡ (placeWhole (now (rec .entry)) i && apartWhole (now (rec .entry)) i && marksWhole (now (rec .entry)) i) ⌝ }
+{
+    let w = place_at(rec, i);
+    if w == 0 {
+        return marks_at(rec, i) == 0;
+    }
+    if !used_ok(rec, w) {
+        return false;
+    }
+    apart_whole(rec, i) & marks_ok(own(rec), w, marks_at(rec, i))
 }
 
 fn all_places(rec: &[u64]) -> bool
-    requires { ⌜ length (now rec) ≡ 52 ⌝ }
-    ensures { λ r. ⌜ r ≡ allBelow 16 (placeWhole (now (rec .entry))) ⌝ }
+    requires { ⌜ (length (now rec) ≡ 52) × (number (now rec) ≤ 4294967295) ⌝ }
+    ensures { λ r. ⌜ r ≡ allBelow 16 (λ i. placeWhole (now (rec .entry)) i && apartWhole (now (rec .entry)) i && marksWhole (now (rec .entry)) i) ⌝ }
 {
-    let mut ok = true;
     for i in 0..Group::PLACES {
-        ok = ok & place_whole(rec, i);
+        if !place_whole(rec, i) {
+            return false;
+        }
     }
-    ok
-}
-
-fn all_apart(rec: &[u64]) -> bool
-    requires { ⌜ length (now rec) ≡ 52 ⌝ }
-    ensures { λ r. ⌜ r ≡ allBelow 16 (apartWhole (now (rec .entry))) ⌝ }
-{
-    let mut ok = true;
-    for i in 0..Group::PLACES {
-        ok = ok & apart_whole(rec, i);
-    }
-    ok
-}
-
-fn all_marks(rec: &[u64]) -> bool
-    requires { ⌜ length (now rec) ≡ 52 ⌝ }
-    ensures { λ r. ⌜ r ≡ allBelow 16 (marksWhole (now (rec .entry))) ⌝ }
-{
-    let mut ok = true;
-    for i in 0..Group::PLACES {
-        ok = ok & marks_whole(rec, i);
-    }
-    ok
+    true
 }
 
 // Whether these words, of any length, are a whole record.
@@ -209,12 +153,8 @@ pub fn is_whole(rec: &[u64]) -> bool
     if rec.len() != Group::WORDS {
         return false;
     }
-    group_whole(rec)
-        & limits_whole(rec)
-        & primary_whole(rec)
-        & all_formed(rec)
-        & all_places(rec)
-        & all_apart(rec)
-        & top_whole(rec)
-        & all_marks(rec)
+    if !first_whole(rec) {
+        return false;
+    }
+    all_formed(rec) & all_places(rec)
 }

@@ -1,16 +1,16 @@
--- Last formed as it stands beside a last primary: the three cases of `formedOk`, both ways, and that its number is at most the last primary's.
-use mathlib.Core.Path.{_≡_, sym, ap, _∙_}
+-- Last formed as it stands beside a last primary: the three cases of `formedOk`, both ways, that it is sound, and that its number is at most the last primary's.
+use mathlib.Core.Path.{_≡_, refl, sym, ap, _∙_}
 use mathlib.Core.Bool.{true, false, not, cond, _&&_}
 use mathlib.Core.Logic.{⊎-elim}
 use Prim.Native.Nat.{ℕ, _<_, _≤_}
 use native.Mathlib.Omega.{arith}
 use lib.Dec.{eqb, ltb}
-use borrow.Author.Tests.{eq-eqb, eqb-true, ltb-true, lt-ltb, le-ltb}
+use borrow.Author.Tests.{eq-eqb, ne-eqb, eqb-true, ltb-true, lt-ltb, le-ltb}
 use Rattle.loops.proofs.Laws.Truth.{and-left, and-right, and-both, or-cases, or-left, or-right, not-true, not-both, test-ext, passes-or-fails}
 use Rattle.group.specs.Heads.{has}
-use Rattle.group.specs.Words.{num, rank, formedOk}
+use Rattle.group.specs.Words.{heads, num, rank, sound, primaryOk, formedOk}
 use Rattle.group.proofs.Laws.Heads.{has-none}
-use Rattle.group.proofs.Laws.Words.{rank-none, rank-some, none-or-some, rank-le-num}
+use Rattle.group.proofs.Laws.Words.{rank-none, rank-some, none-or-some, rank-le-num, has-heads}
 
 -- last primary; or none; or a session with own head, q and a lower number
 pub data Formed (own p q w : ℕ) : Type 0 where
@@ -70,3 +70,29 @@ lower-test own p q w =
 -- a lower rank has a number that is no higher
 pub lower-number : (w p : ℕ) → rank w < rank p → num w ≤ num p
 lower-number w p l = rank-le-num w p (omega arith)
+
+-- ---- a session with a head is sound, and so is a last formed that is in order
+
+none-sound : sound 0 ≡ true
+unfolding sound
+none-sound = refl
+
+pub has-sound : (w h : ℕ) → h < 16 → has w h ≡ true → sound w ≡ true
+unfolding sound
+has-sound w h l e =
+    or-right (eqb w 0) _
+    (ap not (ne-eqb (heads w) 0 (λ z. not-both (has w h) e (sym (has-heads w h l) ∙ ap (λ (s : ℕ). has s h) z ∙ has-none h))))
+
+pub primary-sound : (own p : ℕ) → own < 16 → primaryOk own p ≡ true → sound p ≡ true
+unfolding primaryOk
+primary-sound own p h e = ⊎-elim (λ z. rw (eqb-true p 0 z) none-sound) (has-sound p own h) (or-cases (eqb p 0) (has p own) e)
+
+pub formed-sound : (own p q w : ℕ) → own < 16 → sound p ≡ true → Formed own p q w → sound w ≡ true
+formed-sound own p q w h s (member i e) = rw e s
+formed-sound own p q w h s (none o e) = rw e none-sound
+formed-sound own p q w h s (lower o a b l) = has-sound w own h a
+
+pub formed-number : (own p q w top : ℕ) → num p ≤ top → Formed own p q w → num w ≤ top
+formed-number own p q w top h (member i e) = rw e h
+formed-number own p q w top h (none o e) = omega arith
+formed-number own p q w top h (lower o a b l) = omega (arith, lower-number w p l)

@@ -1,10 +1,9 @@
--- At each turn the number is the fold over the places passed.
+use mathlib.Core.Path.{_≡_, sym, ap, _∙_}
+use Rattle.loops.proofs.Laws.Fold.{fold-none, fold-again, fold-end}
 use borrow.Author.Needs.{needs}
 use native.Mathlib.Omega.{arith}
 use Prim.Native.Nat.{_≤_, _-_}
-use mathlib.Core.Path.{_≡_, sym}
 use Rattle.loops.specs.Below.{foldBelow}
-use Rattle.loops.proofs.Laws.Fold.{fold-none, fold-next, fold-end}
 use Rattle.recovery.specs.Recover.{higher, greatest}
 use Rattle.mending.proofs.greatest.Statement.{statement}
 use Rattle.mending.proofs.greatest.Tie as tie
@@ -46,11 +45,11 @@ loop-less : tie.Need-loop-less Inv-loop μ-loop
 loop-less c = omega arith
 
 loop-again : tie.Need-loop-again Inv-loop μ-loop
-loop-again c = (omega arith, cc (fold-next _ (higher _) _))
+loop-again c = (omega arith, fold-again (higher _) _ _ (c .before .before .before .before .loop .inv .1) (c .larger2 .ensures ∙ rw (c .before .number-of2 .ensures, c .before .before .place-at .ensures)))
 
 returns : tie.Need-returns Inv-loop μ-loop
 unfolding greatest
-returns c = cc (fold-end (higher _) _ _ _ (c .before .loop .inv .0) (c .loop-test .left))
+returns c = c .before .loop .inv .1 ∙ fold-end (higher _) _ _ _ (c .before .loop .inv .0) (c .loop-test .left) ∙ ap (foldBelow 16 (higher _)) (c .before .before .larger .ensures ∙ rw (c .before .before .before .number-of .ensures, c .before .before .before .before .primary .ensures, c .before .before .before .before .before .number .ensures))
 
 pub greatest-spec : {M : Type 1} → statement M
 greatest-spec =

@@ -6,14 +6,15 @@ use mathlib.Core.List.{List}
 use Prim.Native.Nat.{ℕ, zero, suc, _≤_, _<_, _^_, max}
 use native.Mathlib.Nat.{not-suc-le-zero}
 use native.Mathlib.Omega.{arith}
-use borrow.Author.Tests.{ltb-false}
+use borrow.Author.Tests.{le-ltb}
 use lib.Dec.{ltb}
-use Rattle.loops.specs.Below.{foldBelow, lastBelow, table}
-use Rattle.loops.proofs.Laws.Truth.{passes-or-fails, cond-same}
+use Rattle.loops.specs.Below.{foldBelow, lastBelow}
+use Rattle.loops.proofs.Laws.Truth.{passes-or-fails}
 use Rattle.loops.proofs.Laws.Order.{below-suc, lt-or-ge}
-use Rattle.loops.proofs.Laws.Lists.{length-table, getD-table, table-is}
 use Rattle.group.specs.Heads.{has, highest}
+use Rattle.group.specs.Words.{rank}
 use Rattle.group.proofs.Laws.Heads.{has-high}
+use Rattle.group.proofs.Laws.Words.{rank-none}
 use Rattle.state.specs.declared.Held.{Held}
 use Rattle.plan.specs.Attempt.{numberOf, primaryOf}
 
@@ -65,12 +66,7 @@ module _ (m z : ℕ) (held : Held) (r : List ℕ) (none : (q : ℕ) → z ≤ q 
   pub numbers-end : z ≤ 16 → foldBelow z (λ q n. max n (numberOf m held r q)) 0 ≡ foldBelow 16 (λ q n. max n (numberOf m held r q)) 0
   numbers-end h = fold-stays 16 z _ 0 h (λ i a l. rw (no-number i l) (omega arith))
 
-  pub primaries-end : table 16 (λ j. cond (ltb j z) (primaryOf m held r j) 0) ≡ table 16 (primaryOf m held r)
-  primaries-end =
-      table-is 16 _ 0 _ (length-table 16 _)
-      (λ i h.
-      getD-table 16 (λ j. cond (ltb j z) (primaryOf m held r j) 0) i 0 h
-      ∙ ⊎-elim
-      (λ t. rw t)
-      (λ f. rw (no-primary i (ltb-false i z f)) (cond-same (ltb i z) 0))
-      (passes-or-fails (ltb i z)))
+  pub primaries-end : z ≤ 16
+      → foldBelow z (λ q w. cond (ltb (rank w) (rank (primaryOf m held r q))) (primaryOf m held r q) w) 0
+      ≡ foldBelow 16 (λ q w. cond (ltb (rank w) (rank (primaryOf m held r q))) (primaryOf m held r q) w) 0
+  primaries-end h = fold-stays 16 z _ 0 h (λ i a l. rw (no-primary i l) (simp (rank-none, le-ltb (rank a) 0 (omega arith))))

@@ -1,20 +1,19 @@
 -- A whole record, part by part and both ways: each test as the fact that it says.
 use mathlib.Core.Bool.{Bool, true, false, not, _&&_, _||_}
 use mathlib.Core.Logic.{_⊎_, inl, inr, ⊎-elim}
-use mathlib.Core.Path.{_≡_, sym, ap, _∙_}
+use mathlib.Core.Path.{_≡_, ap}
 use mathlib.Core.List.{List}
 use Prim.Native.Nat.{ℕ, _≤_, _<_}
 use native.Mathlib.Omega.{arith}
 use lib.Dec.{eqb, leb, ltb}
 use lib.ListN.{length}
 use borrow.Author.Tests.{eq-eqb, ne-eqb, eqb-true, eqb-false, leb-true, le-leb, ltb-true, lt-ltb}
-use Rattle.loops.specs.Below.{allBelow}
 use Rattle.loops.proofs.Laws.Truth.{and-left, and-right, and-both, or-cases, or-left, or-right, passes-or-fails, not-true}
 use Rattle.loops.proofs.Laws.Tests.{all-at, all-of}
-use Rattle.group.specs.Heads.{has, shared, less, only, within}
+use Rattle.group.specs.Heads.{has, less, only, within}
 use Rattle.group.specs.Words.{heads, num, rank, sessionWord}
 use Rattle.group.specs.Quorum.{enough}
-use Rattle.group.proofs.Laws.Formed.{Formed, Formed.member as member, Formed.none as none, Formed.lower as lower, formed-cases, lower-number}
+use Rattle.group.proofs.Laws.Formed.{formed-cases, formed-number as in-order-number}
 use Rattle.record.specs.Layout.{core, least, own, entered, number, primary, formedFor, placeAt}
 use Rattle.record.specs.Whole.{groupWhole, limitsWhole, primaryWhole, formedWhole, usedOk, placeWhole, apart, apartWhole, topWhole, marksOk, marksWhole, wordsWhole, whole}
 
@@ -31,27 +30,6 @@ right-length r h = ap (λ (b : Bool). b && wordsWhole r) (eq-eqb (length r) 52 h
 pub whole-length : (r : List ℕ) → whole r ≡ true → length r ≡ 52
 unfolding whole
 whole-length r e = eqb-true (length r) 52 (and-left (eqb (length r) 52) (wordsWhole r) e)
-
--- ---- the tests as code makes them: each part is its definition
-
--- of 52 words
-pub tests-whole : (r : List ℕ) {a b c d e f g h : Bool} → length r ≡ 52
-    → a ≡ groupWhole r → b ≡ limitsWhole r → c ≡ primaryWhole r → d ≡ allBelow 16 (formedWhole r) → e ≡ allBelow 16 (placeWhole r)
-    → f ≡ allBelow 16 (apartWhole r) → g ≡ topWhole r → h ≡ allBelow 16 (marksWhole r) → (a && b && c && d && e && f && g && h) ≡ whole r
-unfolding wordsWhole
-tests-whole r l ea eb ec ed ee ef eg eh = sym (right-length r l ∙ rw (← ea, ← eb, ← ec, ← ed, ← ee, ← ef, ← eg, ← eh))
-
--- of last primary's number
-pub top-test : (r : List ℕ) {p n top : ℕ} → p ≡ primary r → n ≡ num p → top ≡ number r → leb n top ≡ topWhole r
-unfolding topWhole
-top-test r ep en et = rw (en, ep, et)
-
--- of a used place
-pub used-test : (own core least p top w : ℕ) {a b : Bool} {h s n x y : ℕ}
-    → a ≡ sessionWord w → b ≡ has w own → h ≡ heads w → s ≡ shared core h → n ≡ num w → x ≡ rank p → y ≡ rank w
-    → (a && b && leb least s && leb 1 n && ltb x y && leb n top) ≡ usedOk own core least p top w
-unfolding usedOk enough
-used-test own core least p top w ea eb eh es en ex ey = rw (ea, eb, es, eh, en, ex, ey)
 
 -- ---- the whole record
 
@@ -218,12 +196,9 @@ free-apart r i z = all-of i (apart r i) (λ j h. apart-of r i j (λ u v e. u z))
 module _ (r : List ℕ) (w : Whole r) where
   pub formed-number : (q : ℕ) → q < 16 → num (formedFor r q) ≤ number r
   unfolding formedWhole
-  formed-number q h = go (formed-cases (own r) (primary r) q (formedFor r q) (and-right (sessionWord (formedFor r q)) _ (w .formed q h)))
-    where
-      go : Formed (own r) (primary r) q (formedFor r q) → num (formedFor r q) ≤ number r
-      go (member i e) = rw e (w .highest)
-      go (none o e) = rw e (omega arith)
-      go (lower o a b l) = omega (arith, lower-number (formedFor r q) (primary r) l, w .highest)
+  formed-number q h =
+      in-order-number (own r) (primary r) q (formedFor r q) (number r) (w .highest)
+      (formed-cases (own r) (primary r) q (formedFor r q) (and-right (sessionWord (formedFor r q)) _ (w .formed q h)))
 
   pub place-number : (i : ℕ) → i < 16 → num (placeAt r i) ≤ number r
   place-number i h = ⊎-elim (λ z. rw z (omega arith)) (λ u. u .below) (place-cases r i (w .places i h))

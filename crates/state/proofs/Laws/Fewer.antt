@@ -1,53 +1,25 @@
 -- Rules 5 and 6, and that neither last primary's number nor the last place's is above the session number, are all of rules 4 to 7: a session with a head is
 -- sound, a last formed's number is at most last primary's, and places rise.
-use mathlib.Core.Path.{_≡_, refl, sym, ap, _∙_}
-use mathlib.Core.Bool.{true, not, _&&_}
+use mathlib.Core.Path.{_≡_, refl}
+use mathlib.Core.Bool.{true, _&&_}
 use mathlib.Core.List.{List}
 use mathlib.Core.Logic.{⊎-elim}
 use Prim.Native.Nat.{ℕ, zero, suc, _-_, _≤_, _<_}
 use native.Mathlib.Nat.{not-suc-le-zero}
 use native.Mathlib.Omega.{arith}
-use borrow.Author.Tests.{leb-true, le-leb, eqb-true, ne-eqb}
+use borrow.Author.Tests.{leb-true, le-leb, eqb-true}
 use lib.ListN.{getD}
 use lib.Dec.{leb, eqb}
 use Rattle.loops.specs.Below.{allBelow}
-use Rattle.loops.proofs.Laws.Truth.{and-left, and-right, and-both, or-cases, or-right, not-both, test-ext}
+use Rattle.loops.proofs.Laws.Truth.{and-left, and-right, and-both, test-ext}
 use Rattle.loops.proofs.Laws.Order.{below-suc}
 use Rattle.loops.proofs.Laws.Tests.{all-at, all-of}
 use Rattle.group.specs.Heads.{has}
-use Rattle.group.specs.Words.{heads, num, sound, primaryOk, formedOk}
-use Rattle.group.proofs.Laws.Heads.{has-none}
-use Rattle.group.proofs.Laws.Words.{has-heads}
-use Rattle.group.proofs.Laws.Formed.{Formed, member, none, lower, formed-cases, lower-number}
+use Rattle.group.specs.Words.{num, primaryOk, formedOk}
+use Rattle.group.proofs.Laws.Formed.{Formed, formed-cases, has-sound, primary-sound, formed-sound, formed-number}
 use Rattle.state.specs.declared.State.{State}
 use Rattle.state.specs.Rules.{rule5, rule6, prior, broken, keepsRules}
 use Rattle.state.proofs.Laws.Kept.{Kept, formed, place, place-at, rising, unbroken, kept, keeps}
-
--- ---- sessions
-
-none-sound : sound 0 ≡ true
-unfolding sound
-none-sound = refl
-
-has-sound : (w h : ℕ) → h < 16 → has w h ≡ true → sound w ≡ true
-unfolding sound
-has-sound w h l e =
-    or-right (eqb w 0) _
-    (ap not (ne-eqb (heads w) 0 (λ z. not-both (has w h) e (sym (has-heads w h l) ∙ ap (λ (s : ℕ). has s h) z ∙ has-none h))))
-
-primary-sound : (own p : ℕ) → own < 16 → primaryOk own p ≡ true → sound p ≡ true
-unfolding primaryOk
-primary-sound own p h e = ⊎-elim (λ z. rw (eqb-true p 0 z) none-sound) (has-sound p own h) (or-cases (eqb p 0) (has p own) e)
-
-formed-sound : (own p q w : ℕ) → own < 16 → sound p ≡ true → Formed own p q w → sound w ≡ true
-formed-sound own p q w h s (member i e) = rw e s
-formed-sound own p q w h s (none o e) = rw e none-sound
-formed-sound own p q w h s (lower o a b l) = has-sound w own h a
-
-formed-number : (own p q w top : ℕ) → num p ≤ top → Formed own p q w → num w ≤ top
-formed-number own p q w top h (member i e) = rw e h
-formed-number own p q w top h (none o e) = omega arith
-formed-number own p q w top h (lower o a b l) = omega (arith, lower-number w p l)
 
 -- ---- places: the last has the highest number
 

@@ -1,66 +1,43 @@
--- The usual word is in order, so only its form is asked; of any other one the test is its definition, term by term.
-use mathlib.Core.Path.{_≡_, refl, sym, ap, _∙_}
-use mathlib.Core.Bool.{Bool, true, false, cond, _&&_}
-use mathlib.Core.List.{List}
-use Prim.Native.Nat.{ℕ}
-use Rattle.group.specs.Heads.{has}
-use Rattle.group.specs.Words.{sessionWord}
-use Rattle.group.proofs.Laws.Formed.{formed-usual}
-use Rattle.record.specs.Layout.{own, primary, formedFor}
-use Rattle.record.specs.Whole.{formedWhole}
+-- The three cases of a last formed that is in order; it is a session word, as last primary is.
+use mathlib.Core.Path.{sym, _∙_}
+use Rattle.record.proofs.Laws.Fewer.{formed-among, formed-none, formed-other}
 use borrow.Author.Needs.{needs}
 use Rattle.whole.proofs.formed_whole.Statement.{statement}
 use Rattle.whole.proofs.formed_whole.Tie as tie
 
-and-passed : (a b : Bool) → b ≡ true → a ≡ (a && b)
-and-passed true b e = sym e
-and-passed false b e = refl
-
-usual-whole : (r : List ℕ) (q : ℕ) → formedFor r q ≡ cond (has (primary r) q) (primary r) 0 → sessionWord (formedFor r q) ≡ formedWhole r q
-unfolding formedWhole
-usual-whole r q e = and-passed _ _ (formed-usual (own r) (primary r) q (formedFor r q) e)
-
-formed-for-requires : tie.Need-formed-for-requires
-formed-for-requires c κs = search needs
-
-primary-requires : tie.Need-primary-requires
-primary-requires c κs = search needs
-
-usual-formed-requires : tie.Need-usual-formed-requires
-usual-formed-requires c κs = search needs
-
-session-word-requires : tie.Need-session-word-requires
-session-word-requires c κs = search needs
+has-head-requires : tie.Need-has-head-requires
+has-head-requires c κs = search needs
 
 returns : tie.Need-returns
-returns c =
-    let w = c .before .before .before .before .formed-for .ensures in
-    let p = c .before .before .before .primary .ensures in
-    c .session-word .ensures ∙ ap sessionWord w ∙ usual-whole _ _ (sym w ∙ c .before .if1 .taken ∙ c .before .before .usual-formed .ensures ∙ rw p)
-
-session-word-requires-2 : tie.Need-session-word-requires-2
-session-word-requires-2 c κs = search needs
-
-own-requires : tie.Need-own-requires
-own-requires c κs = search needs
-
-formed-ok-requires : tie.Need-formed-ok-requires
-formed-ok-requires c κs = search needs
+returns c = formed-among _ _ _ _ (c .before .before .pre .0) (c .before .before .pre .2) (sym (c .before .has-head .ensures) ∙ c .if1 .taken)
 
 returns-2 : tie.Need-returns-2
-unfolding formedWhole
-returns-2 c = cc
+returns-2 c = formed-none _ _ _ _ (c .before .before .before .pre .0) (c .before .before .before .pre .2) (sym (c .before .before .has-head .ensures) ∙ c .before .if1 .left) (c .if2 .taken)
+
+has-head-requires-2 : tie.Need-has-head-requires-2
+has-head-requires-2 c κs = search needs
+
+has-head-requires-3 : tie.Need-has-head-requires-3
+has-head-requires-3 c κs = search needs
+
+number-of-requires : tie.Need-number-of-requires
+number-of-requires c κs = search needs
+
+number-of-requires-2 : tie.Need-number-of-requires-2
+number-of-requires-2 c κs = search needs
+
+returns-3 : tie.Need-returns-3
+returns-3 c = formed-other _ _ _ _ (c .before .before .before .before .before .before .before .pre .0) (c .before .before .before .before .before .before .before .pre .2) (sym (c .before .before .before .before .before .before .has-head .ensures) ∙ c .before .before .before .before .before .if1 .left) (c .before .before .before .before .if2 .left) (c .before .before .before .has-head2 .ensures) (c .before .before .has-head3 .ensures) (c .before .number-of .ensures) (c .number-of2 .ensures)
 
 pub formed-whole-spec : {M : Type 1} → statement M
 formed-whole-spec =
     tie.close
     (tie.spec
-    formed-for-requires
-    primary-requires
-    usual-formed-requires
-    session-word-requires
+    has-head-requires
     returns
-    session-word-requires-2
-    own-requires
-    formed-ok-requires
-    returns-2)
+    returns-2
+    has-head-requires-2
+    has-head-requires-3
+    number-of-requires
+    number-of-requires-2
+    returns-3)

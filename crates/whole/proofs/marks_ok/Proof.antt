@@ -1,12 +1,9 @@
--- The two branches are the free place and the used one.
-use mathlib.Core.Path.{sym, _∙_}
-use Rattle.record.proofs.Laws.Whole.{marks-free, marks-used}
+-- Of a used place the definition asks this.
+use mathlib.Core.Path.{_∙_}
+use Rattle.record.proofs.Laws.Whole.{marks-used}
 use borrow.Author.Needs.{needs}
 use Rattle.whole.proofs.marks_ok.Statement.{statement}
 use Rattle.whole.proofs.marks_ok.Tie as tie
-
-returns : tie.Need-returns
-returns c = sym (marks-free _ _ _ (c .if1 .taken))
 
 heads-of-requires : tie.Need-heads-of-requires
 heads-of-requires c κs = search needs
@@ -23,19 +20,16 @@ wide-requires c κs = search needs
 lies-in-requires : tie.Need-lies-in-requires
 lies-in-requires c κs = search needs
 
-returns-2 : tie.Need-returns-2
-returns-2 c =
-    c .lies-in .ensures
-    ∙ rw (c .before .wide .ensures, c .before .before .without-head .ensures, c .before .before .before .heads-of .ensures, marks-used _ _ _ (c .before .before .before .before .if1 .left))
+returns : tie.Need-returns
+returns c = c .lies-in .ensures ∙ rw (c .before .wide .ensures, c .before .before .without-head .ensures, c .before .before .before .heads-of .ensures, marks-used _ _ _ (c .before .before .before .before .pre .1))
 
 pub marks-ok-spec : {M : Type 1} → statement M
 marks-ok-spec =
     tie.close
     (tie.spec
-    returns
     heads-of-requires
     cast-without-head
     without-head-requires
     wide-requires
     lies-in-requires
-    returns-2)
+    returns)
