@@ -81,10 +81,11 @@ pub fn times(call: Call, cases: &[Case], rounds: usize) -> [f64; 3] {
     [proved.median(), plain.median(), by_value.median()]
 }
 
-/// Nanoseconds of the copies of a call by value.
+/// Nanoseconds of the copies of a call by value. They are short, so that a
+/// moment of other work could fill as few rounds as a call gets.
 pub fn copies_time(cases: &[Case], rounds: usize) -> f64 {
     let mut clock = Clock::new::<ByValue>(copies, cases, 1);
-    for _ in 0..rounds {
+    for _ in 0..10 * rounds {
         clock.round();
     }
     clock.median()
