@@ -2,6 +2,7 @@
 //! session are changed in place, nothing is allocated. Written from document
 //! 01; the answers are those of `second`, so that both can be compared.
 
+pub mod by_value;
 pub mod calls;
 mod decide;
 pub mod lines;

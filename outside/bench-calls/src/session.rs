@@ -1,16 +1,18 @@
-//! The session, and when it fits a record.
+//! The session, and when it fits a record. Its structs are laid out as in C, the
+//! widest fields first.
 
 use crate::record::{places, whole, Group, Words, NUMBER, PRIMARY, VIEW};
 use crate::words::{number, primary_and_formed_agree, Rising, HEADS, PLACES};
 
 /// What a state line says of its sender; the first `count` places count.
+#[repr(C)]
 #[derive(Clone, Copy, PartialEq, Eq, Debug)]
 pub struct State {
-    pub number: u32,
-    pub count: u32,
-    pub primary: u64,
     pub formed: [u64; HEADS],
     pub places: [u64; PLACES],
+    pub primary: u64,
+    pub number: u32,
+    pub count: u32,
 }
 
 impl State {
@@ -53,14 +55,15 @@ pub const ATTEMPTED: u8 = 3;
 pub const FORMED: u8 = 4;
 
 /// The session of a head. A stage of no meaning fits no record.
+#[repr(C)]
 #[derive(Clone, Copy, PartialEq, Eq, Debug)]
 pub struct Session {
-    pub stage: u8,
+    pub held: [State; HEADS],
     pub view: u32,
     pub members: u16,
     pub states: u16,
     pub attempts: u16,
-    pub held: [State; HEADS],
+    pub stage: u8,
 }
 
 impl Session {

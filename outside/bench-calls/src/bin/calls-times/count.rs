@@ -2,11 +2,8 @@
 //! second process of this program.
 
 use crate::cases::{cases, Call, Case};
-use crate::sides::{nothing, Plain, Proved, Run, Side};
+use crate::sides::{copies, nothing, ByValue, Plain, Proved, Run, Side};
 use std::process::Command;
-
-/// Which calls the second process makes.
-const SIDES: [&str; 3] = ["proved", "plain", "nothing"];
 
 /// Callgrind counts while this runs, so it has a name of its own.
 #[no_mangle]
@@ -30,6 +27,8 @@ pub fn make(call: Call, heads: usize, side: &str) -> Result<(), String> {
     match side {
         "proved" => make_all::<Proved>(Proved::run(call), &cases),
         "plain" => make_all::<Plain>(Plain::run(call), &cases),
+        "by value" => make_all::<ByValue>(ByValue::run(call), &cases),
+        "copies" => make_all::<ByValue>(copies, &cases),
         "nothing" => make_all::<Plain>(nothing, &cases),
         _ => return Err(format!("no side is called {side}")),
     }
@@ -53,15 +52,17 @@ fn collected(name: &str, heads: usize, side: &str) -> Result<f64, String> {
         .ok_or(format!("callgrind gave no count:\n{said}"))
 }
 
-/// Instructions of one call: the proved library's and the plain one's.
-pub fn counts(name: &str, heads: usize, made: usize) -> Result<[f64; 2], String> {
-    let mut all = [0.0; 3];
-    for (count, side) in all.iter_mut().zip(SIDES) {
-        *count = collected(name, heads, side)?;
+/// Instructions of one call on each of some sides, `made` calls being counted.
+pub fn counts<const N: usize>(
+    name: &str,
+    heads: usize,
+    made: usize,
+    sides: [&str; N],
+) -> Result<[f64; N], String> {
+    let nothing = collected(name, heads, "nothing")?;
+    let mut all = [0.0; N];
+    for (count, side) in all.iter_mut().zip(sides) {
+        *count = (collected(name, heads, side)? - nothing) / made as f64;
     }
-    let [proved, plain, nothing] = all;
-    Ok([
-        (proved - nothing) / made as f64,
-        (plain - nothing) / made as f64,
-    ])
+    Ok(all)
 }

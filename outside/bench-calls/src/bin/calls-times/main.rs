@@ -1,5 +1,5 @@
-//! The proved calls beside the plain ones: times, and with `--callgrind`
-//! instructions, as a table. See outside/README.md.
+//! The proved calls beside the plain ones, and beside the plain ones by value:
+//! times, and with `--callgrind` instructions, as a table. See outside/README.md.
 
 mod cases;
 mod clock;
@@ -47,37 +47,60 @@ fn arguments(given: &[String]) -> Result<Arguments, String> {
     Ok(all)
 }
 
+/// The cells of a measure: each plain side's has its ratio after it.
+fn cells([proved, plain, by_value]: [f64; 3]) -> String {
+    format!(
+        " {proved:.0} | {plain:.0} | {:.2} | {by_value:.0} | {:.2} |",
+        proved / plain,
+        proved / by_value
+    )
+}
+
+/// The names of these cells.
+fn names(unit: &str) -> String {
+    format!(" proved, {unit} | plain, {unit} | ratio | by value, {unit} | ratio |")
+}
+
 /// One line of the table.
 fn row(arguments: &Arguments, call: Call, name: &str, heads: usize) -> Result<(), String> {
     let cases = cases(call, heads);
     for case in &cases {
         sides::agree(call, case)?;
     }
-    let [a, b] = clock::times(call, &cases, arguments.rounds);
-    print!("| {name} | {heads} | {a:.0} | {b:.0} | {:.2} |", a / b);
+    let times = clock::times(call, &cases, arguments.rounds);
+    print!("| {name} | {heads} |{}", cells(times));
     if arguments.callgrind {
-        let [a, b] = count::counts(name, heads, cases.len())?;
-        print!(" {a:.0} | {b:.0} | {:.2} |", a / b);
+        let sides = ["proved", "plain", "by value"];
+        print!("{}", cells(count::counts(name, heads, cases.len(), sides)?));
     }
-    let [a, b] = stack::stacks(call, &cases)?;
-    println!(" {a} | {b} |");
+    let [a, b, c] = stack::stacks(call, &cases)?;
+    println!(" {a} | {b} | {c} |");
+    Ok(())
+}
+
+/// A line under the table: what the copies of a session alone cost, over the
+/// cases of a call. More cases take more of the cache.
+fn copies(arguments: &Arguments, call: Call, name: &str, heads: usize) -> Result<(), String> {
+    let cases = cases(call, heads);
+    let (made, time) = (cases.len(), clock::copies_time(&cases, arguments.rounds));
+    print!("\nA session by value into a call that does nothing, and back ");
+    print!("({made} sessions in turn): {time:.0} ns");
+    if arguments.callgrind {
+        let [count] = count::counts(name, heads, made, ["copies"])?;
+        print!(", {count:.0} instructions");
+    }
+    println!(".");
     Ok(())
 }
 
 fn table(arguments: &Arguments) -> Result<(), String> {
-    let counted = if arguments.callgrind {
-        [
-            " proved, instructions | plain, instructions | ratio |",
-            "---|---|---|",
-        ]
-    } else {
-        [""; 2]
-    };
-    println!(
-        "| call | heads | proved, ns | plain, ns | ratio |{} proved, stack | plain, stack |",
-        counted[0]
-    );
-    println!("|---|---|---|---|---|{}---|---|", counted[1]);
+    let mut heading = format!("| call | heads |{}", names("ns"));
+    if arguments.callgrind {
+        heading += &names("instructions");
+    }
+    heading += " proved, stack | plain, stack | by value, stack |";
+    println!("{heading}");
+    println!("|{}", "---|".repeat(heading.matches('|').count() - 1));
     for (call, name) in CALLS {
         if arguments.only.as_deref().is_some_and(|only| only != name) {
             continue;
@@ -86,7 +109,8 @@ fn table(arguments: &Arguments) -> Result<(), String> {
             row(arguments, call, name, heads)?;
         }
     }
-    Ok(())
+    copies(arguments, Call::Enter, "enter", 16)?;
+    copies(arguments, Call::HearState, "hear state", 16)
 }
 
 fn run() -> Result<(), String> {

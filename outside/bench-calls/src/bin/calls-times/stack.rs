@@ -3,7 +3,7 @@
 //! went.
 
 use crate::cases::{Call, Case};
-use crate::sides::{nothing, Plain, Proved, Run, Side, Work};
+use crate::sides::{nothing, ByValue, Plain, Proved, Run, Side, Work};
 use std::ffi::c_void;
 use std::ptr::null_mut;
 
@@ -85,7 +85,11 @@ fn most<C: Side>(call: Call, cases: &[Case]) -> Result<usize, String> {
     Ok(most)
 }
 
-/// Bytes of stack of a call: the proved library's and the plain one's.
-pub fn stacks(call: Call, cases: &[Case]) -> Result<[usize; 2], String> {
-    Ok([most::<Proved>(call, cases)?, most::<Plain>(call, cases)?])
+/// Bytes of stack of a call: the proved one, the plain one, and that by value.
+pub fn stacks(call: Call, cases: &[Case]) -> Result<[usize; 3], String> {
+    Ok([
+        most::<Proved>(call, cases)?,
+        most::<Plain>(call, cases)?,
+        most::<ByValue>(call, cases)?,
+    ])
 }
