@@ -86,13 +86,13 @@ pub extern "C" fn head_form(words: &mut [u64], session: Session, stores: u64) ->
     HeadEnd { code, session }
 }
 
+// A call that writes hands back the session that it was given, which is taken from there: from what the call hands back, it would be copied once more.
 #[no_mangle]
 pub extern "C" fn head_write_state(words: &[u64], session: Session, out: &mut [u8]) -> HeadLine
     ensures { λ r. ⌜ lined (now (out .exit)) r ≡ linedOf (writeStateSpec session (now (words .entry)) (now (out .entry))) ⌝ }
 {
     let next = session.write_state(words, out);
     let answer = next.answer;
-    let session = next.session;
     HeadLine {
         code: code(answer),
         length: length_of(answer),
@@ -106,7 +106,6 @@ pub extern "C" fn head_write_attempt(words: &[u64], session: Session, out: &mut 
 {
     let next = session.write_attempt(words, out);
     let answer = next.answer;
-    let session = next.session;
     HeadLine {
         code: code(answer),
         length: length_of(answer),
