@@ -17,7 +17,7 @@ same-length : tie.Need-same-length
 same-length c = search needs
 
 returns : tie.Need-returns
-returns c = ends-lined _ (c .before .before .before .before .before .write-attempt .result) _ _ _ _ (c .before .code .ensures) (c .length-of .ensures) (c .before .before .before .before .before .write-attempt .ensures) (attempt-hands-back _ _ _)
+returns c = ends-lined _ (c .before .before .before .before .write-attempt .result) _ _ _ _ (c .before .code .ensures) (c .length-of .ensures) (c .before .before .before .before .write-attempt .ensures) (attempt-hands-back _ _ _)
 
 pub head-write-attempt-spec : {M : Type 1} → statement M
 head-write-attempt-spec =
