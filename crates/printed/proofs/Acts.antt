@@ -28,8 +28,7 @@ use Rattle.keeping.specs.Keeping.{blank, pushed, keptAt, isLine, lineOf}
 use Rattle.seat.specs.Seat.{sentLine, stateSent, attemptSent, sentOnEntry, sentOnDecision, storesOf}
 use Rattle.deeds.specs.Told.{Told, call as says, announced}
 use Rattle.seat.specs.Played.{Played, doesNothing, afterCall, entry, enters, listened, hearsState, hearsAttempt, decision, decides, formation, forms as formsBy, recovers, arms, playedBy}
-use Rattle.formed.specs.Formed.{newly}
-use Rattle.formed.specs.Formed.{noted}
+use Rattle.formed.specs.Formed.{newly, noted}
 use Rattle.worlds.specs.Bench.{seatAt}
 use Rattle.printed.specs.Printed.{sendsState, sendsAttempt, hears, eventsBy, after}
 use Rattle.printed.proofs.Listed.{noted-none, noted-put, formed-some}

@@ -21,9 +21,8 @@ use Rattle.events.specs.declared.Event.the-variants as event
 use Rattle.events.specs.Events.{named, byteAt, starts, groupEvent, viewEvent, enterEvent, stateEvent, attemptEvent, decideEvent, formEvent, recoverEvent, cutEvent, ofKind, eventOf}
 use Rattle.deeds.specs.declared.What.{What}
 use Rattle.deeds.specs.declared.What.the-variants as what
-use Rattle.views.specs.Views.{announced, membersOf}
+use Rattle.views.specs.Views.{announced, membersOf, viewWhat, enterWhat}
 use Rattle.asking.specs.Asking.{toOf, fromOf, inGroup, groupWhat, whatOf, eventIn}
-use Rattle.views.specs.Views.{viewWhat, enterWhat}
 use Rattle.worlds.specs.Bench.{newViews}
 use Rattle.printed.proofs.Views.{members-stay}
 use Rattle.printed.proofs.Acts.{Allowed}

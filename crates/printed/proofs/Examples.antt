@@ -37,12 +37,10 @@ use Rattle.events.specs.Events.{named, byteAt, starts, groupEvent, viewEvent, e
 use Rattle.keeping.specs.Keeping.{blank, noLine, storesFor, pushed, keptAt, isLine}
 use Rattle.seat.specs.Seat.{emptySeat, storesOf, stateSent, attemptSent}
 use Rattle.seat.specs.Played.{doesNothing, starts as startsSeat, afterCall, entry, enters, decision as decisionOf, decides, formation, forms, listened, hearsState, hearsAttempt, arms, playedBy}
-use Rattle.formed.specs.Formed.{newly}
-use Rattle.views.specs.Views.{viewIndex, announced, membersOf}
-use Rattle.formed.specs.Formed.{insert, noted}
+use Rattle.formed.specs.Formed.{newly, insert, noted}
+use Rattle.views.specs.Views.{viewIndex, announced, membersOf, viewWhat, enterWhat}
 use Rattle.worlds.specs.Bench.{startLast, acts, obeyed, happens, taken, played, newBench}
 use Rattle.asking.specs.Asking.{inGroup, groupWhat, eventIn}
-use Rattle.views.specs.Views.{viewWhat, enterWhat}
 use Rattle.printed.specs.Printed.{benchAfter}
 
 -- group 0003 with Q 1; view 1 is 0003; heads 0 and 1 enter it, hear each other's state, decide, hear each other's attempt; head 0 forms with one store, head 1 forms

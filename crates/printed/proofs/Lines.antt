@@ -25,11 +25,10 @@ use Rattle.deeds.specs.declared.What.{What}
 use Rattle.deeds.specs.declared.What.the-variants as what
 use Rattle.seat.specs.Seat.{emptySeat}
 use Rattle.seat.specs.Played.{doesNothing, playedBy}
-use Rattle.views.specs.Views.{membersOf}
+use Rattle.views.specs.Views.{membersOf, viewWhat, enterWhat}
 use Rattle.formed.specs.Formed.{noted}
 use Rattle.worlds.specs.Bench.{Bench, seatAt, startLast, opens, allStarted, newViews, acts, obeyed, happens, taken, played, newBench}
 use Rattle.asking.specs.Asking.{toOf, fromOf, inGroup, groupWhat, whatOf, eventIn}
-use Rattle.views.specs.Views.{viewWhat, enterWhat}
 use Rattle.printed.specs.Printed.{starting, eventsBy, eventsOf, eventsIn, after, orElse}
 use Rattle.printed.proofs.Listed.{noted-none, noted-put, formed-fit}
 use Rattle.printed.proofs.Follows.{Follows}

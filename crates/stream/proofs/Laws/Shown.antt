@@ -19,8 +19,7 @@ use Rattle.lines.proofs.Laws.Writing.{length-attempt-line, length-state-line}
 use Rattle.lines.proofs.Laws.Trip.{from-line}
 use Rattle.lines.proofs.Laws.Walk.{first-whole, walks}
 use Rattle.lines.proofs.Laws.Theorems.{judged-cases}
-use Rattle.shown.specs.Shown.{refusedText, shown, printed}
-use Rattle.shown.specs.Shown.{room}
+use Rattle.shown.specs.Shown.{refusedText, shown, printed, room}
 
 -- ---- lengths of written lines
 

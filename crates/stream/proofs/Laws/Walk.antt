@@ -13,8 +13,7 @@ use Rattle.lines.specs.Walk.{wholeLines, begun, lastLine}
 use Rattle.lines.proofs.Laws.Hex.{part-drop}
 use Rattle.lines.proofs.Laws.Reading.{first-line, no-line}
 use Rattle.lines.proofs.Laws.Walk.{first-whole, none-whole}
-use Rattle.shown.specs.Shown.{shown, refusedText, printed}
-use Rattle.shown.specs.Shown.{room}
+use Rattle.shown.specs.Shown.{shown, refusedText, printed, room}
 use Rattle.stream.proofs.Laws.Shown.{room-le, broken-shown, printed-first}
 
 pub record Walked (s out rest : List ℕ) (put end : ℕ) : Type 0 where
