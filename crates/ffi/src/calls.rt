@@ -1,7 +1,6 @@
 // The calls of a head, for C and Rust to link. A session from outside may hold anything: it is taken or refused with 2.
 use codes::code;
 use codes::length_of;
-use head::session::Next;
 use head::session::Session;
 ghost use mathlib.Core.Path.{_≡_};
 ghost use Rattle.head.specs.Calls.{enterSpec, hearStateSpec, hearAttemptSpec, decideSpec, formSpec, writeStateSpec, writeAttemptSpec};

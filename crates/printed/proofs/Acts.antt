@@ -9,7 +9,6 @@ use native.Mathlib.Omega.{arith}
 use lib.Dec.{eqb}
 use lib.ListN.{length, set}
 use lib.Seq.{set-getD}
-use Rattle.loops.proofs.Laws.Truth.{cond-elim}
 use Rattle.group.specs.Answers.{Said, started, recovered, entered, heard, attempted, no-quorum, numbers-run-out, no-place, formed, cut, written, refused}
 use Rattle.record.specs.Layout.{primary}
 use Rattle.head.specs.declared.session.Session.{Session}
@@ -30,23 +29,12 @@ use Rattle.deeds.specs.Told.{Told, call as says, announced}
 use Rattle.seat.specs.Played.{Played, doesNothing, afterCall, entry, enters, listened, hearsState, hearsAttempt, decision, decides, formation, forms as formsBy, recovers, arms, playedBy}
 use Rattle.formed.specs.Formed.{newly, noted}
 use Rattle.worlds.specs.Bench.{seatAt}
+use Rattle.head.proofs.Laws.Writing.{state-hands-back, attempt-hands-back}
 use Rattle.printed.specs.Printed.{sendsState, sendsAttempt, hears, eventsBy, after}
 use Rattle.printed.proofs.Listed.{noted-none, noted-put, formed-some}
 use Rattle.printed.proofs.Follows.{KeptIn, kept-pushed, sent-written, Moves, moves-then, call-sent, call-formed, call-moves, Follows, follows-moved}
 
 -- ---- what calls leave as it was
-
-by-writing : (n : ℕ) (s : Session) (text out : List ℕ) → writes n s text out .session ≡ s
-unfolding writes
-by-writing n s text out = cond-elim (λ (w : Wrote). w .session ≡ s) (eqb n 0) _ _ (λ e. refl) (λ e. refl)
-
-state-session : (s : Session) (r out : List ℕ) → writeStateSpec s r out .session ≡ s
-unfolding writeStateSpec
-state-session s r out = by-writing _ s _ out
-
-attempt-session : (s : Session) (r out : List ℕ) → writeAttemptSpec s r out .session ≡ s
-unfolding writeAttemptSpec
-attempt-session s r out = by-writing _ s _ out
 
 hear-state-words : (s : Session) (r bytes : List ℕ) → hearStateSpec s r bytes .words ≡ r
 unfolding hearStateSpec
@@ -155,11 +143,11 @@ module _ (S : Setting) (room : (W : World) → History S W → length (inOrder (
 
     sends-state : Sends r s (pushed (stateSent s r) (h .sent)) (V₂ (write-state blank))
     unfolding stateSent
-    sends-state = sends-line (write-state blank) (writeStateSpec s r blank) tt refl (state-session s r blank) refl refl
+    sends-state = sends-line (write-state blank) (writeStateSpec s r blank) tt refl (state-hands-back s r blank) refl refl
 
     sends-attempt : Sends r s (pushed (attemptSent s r) (h .sent)) (V₂ (write-attempt blank))
     unfolding attemptSent
-    sends-attempt = sends-line (write-attempt blank) (writeAttemptSpec s r blank) tt refl (attempt-session s r blank) refl refl
+    sends-attempt = sends-line (write-attempt blank) (writeAttemptSpec s r blank) tt refl (attempt-hands-back s r blank) refl refl
 
     on-entry : (a : Said) → Sends r s (sentOnEntry a s r (h .sent)) (after S (sendsState p a) V₁)
     unfolding after

@@ -1,6 +1,6 @@
 -- Document 02, Item 1: "What it prints of formed sessions is proved to be those of the history, so demand 3 reads over it." Which history the event lines are: each event
 -- that makes its head act is one or two events of crate history, with the head's own record, session and stores.
-use mathlib.Core.Bool.{Bool, true, false, cond}
+use mathlib.Core.Bool.{true, false, cond}
 use mathlib.Core.List.{List, [], _∷_, _++_}
 use mathlib.Core.Path.{_≡_}
 use Prim.Native.Nat.{ℕ, zero, suc, _-_, _≤_, _<_}

@@ -14,7 +14,7 @@ ghost use Rattle.group.specs.Answers.{said, refusalNumber};
 ghost use Rattle.lines.specs.Hex.{lineEnd};
 ghost use Rattle.lines.specs.Walk.{firstOf};
 ghost use Rattle.deeds.specs.Told.{told};
-ghost use Rattle.printing.specs.Texts.{refusedText, saidText, toldText, answerWords, wordAt, sessionLine, closing, lastText};
+ghost use Rattle.printing.specs.Texts.{refusedText, saidText, toldText, wordAt, sessionLine, closing, lastText};
 
 // A text at a place, and the next place.
 fn put_text(out: &mut [u8], at: usize, text: &[u8]) -> usize

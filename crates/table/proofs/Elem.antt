@@ -18,7 +18,6 @@ use denote.Struct.Laws as LL
 use Rattle.deeds.specs.declared.Deed.{Deed}
 use Rattle.seat.specs.declared.Next.{Next}
 use Rattle.seat.specs.declared.Seat.{Seat}
-use Rattle.deeds.specs.declared.What.{What}
 use Rattle.asking.specs.declared.Order.{Order}
 use Rattle.asking.specs.declared.World.{World}
 use Rattle.deeds.proofs.Deed as d₁

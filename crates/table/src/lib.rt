@@ -11,7 +11,7 @@ use seat::Seat;
 use seat::empty_seat;
 use seat::played;
 ghost use mathlib.Core.Path.{_≡_};
-ghost use Prim.Native.Nat.{_<_, _≤_};
+ghost use Prim.Native.Nat.{_<_};
 ghost use lib.ListN.{length, replicate};
 ghost use Rattle.seat.specs.Seat.{emptySeat};
 ghost use Rattle.seat.specs.Played.{did, playedBy};

@@ -38,8 +38,6 @@ unfoldable pub startLast : ℕ → ℕ → ℕ → List Seat → List Seat
 startLast core least zero t = t
 startLast core least (suc n) t = startLast core least n (set t (15 - n) (starts (seatAt t (15 - n)) (15 - n) core least .seat))
 
--- ---- events
-
 -- ---- what the bench itself keeps of it
 
 abbrev pub opens : What → Bool

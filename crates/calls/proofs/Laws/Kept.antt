@@ -34,7 +34,6 @@ use Rattle.plan.proofs.Laws.Form.{formed-reads, forms-primary, attempt-places}
 use Rattle.head.specs.declared.session.Session.{Session}
 use Rattle.head.specs.Session.{opened, withState, withAttempt, atStage}
 use Rattle.fitting.specs.Fits.{placed}
-use Rattle.head.specs.Fits.{fits}
 use Rattle.head.specs.Calls.{decidedStage}
 use Rattle.calls.specs.Statements.{Sized}
 use Rattle.head.proofs.Laws.Fits.{Fitting}

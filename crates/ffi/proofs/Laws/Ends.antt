@@ -1,32 +1,17 @@
 -- A call's end in numbers is that of its definition: the number and the length go by the answer, the rest is handed on.
-use mathlib.Core.Path.{_≡_, refl, ap, _∙_}
+use mathlib.Core.Path.{_≡_, ap, _∙_}
 use mathlib.Core.List.{List}
 use Prim.Native.Nat.{ℕ}
-use lib.Dec.{eqb}
-use Rattle.loops.proofs.Laws.Truth.{cond-elim}
 use Rattle.group.specs.Answers.{said}
 use Rattle.head.specs.declared.session.Session.{Session}
 use Rattle.head.specs.declared.session.Next.{Next}
-use Rattle.head.specs.Calls.{Ended, Wrote, ended, wrote, writes, writeStateSpec, writeAttemptSpec}
+use Rattle.head.specs.Calls.{Ended, Wrote, ended, wrote}
 use Rattle.codes.specs.Codes.{code, lengthOf}
 use Rattle.ffi.specs.Ends.{Coded, Lined, codedOf, linedOf}
 
 pub ends-coded : (words : List ℕ) (next : Next) (e : Ended) (n : ℕ) → n ≡ code (said (next .answer)) → ended words next ≡ e
     → _≡_ {A = Coded} (record { number = n; words = words; session = next .session }) (codedOf e)
 ends-coded words next e n p q = rw p (ap codedOf q)
-
--- A call that writes hands back the session that it was given.
-hands-back : (n : ℕ) (s : Session) (text out : List ℕ) → writes n s text out .session ≡ s
-unfolding writes
-hands-back n s text out = cond-elim (λ (w : Wrote). w .session ≡ s) (eqb n 0) _ _ (λ e. refl) (λ e. refl)
-
-pub state-hands-back : (s : Session) (r out : List ℕ) → writeStateSpec s r out .session ≡ s
-unfolding writeStateSpec
-state-hands-back s r out = hands-back _ s _ out
-
-pub attempt-hands-back : (s : Session) (r out : List ℕ) → writeAttemptSpec s r out .session ≡ s
-unfolding writeAttemptSpec
-attempt-hands-back s r out = hands-back _ s _ out
 
 pub ends-lined : (out : List ℕ) (next : Next) (w : Wrote) (s : Session) (n m : ℕ) → n ≡ code (said (next .answer)) → m ≡ lengthOf (said (next .answer)) → wrote out next ≡ w → w .session ≡ s
     → _≡_ {A = Lined} (record { number = n; length = m; session = s; out = out }) (linedOf w)

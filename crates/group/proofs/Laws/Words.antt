@@ -1,16 +1,18 @@
 -- Laws of session words: a word is its number and its heads, ranks order them, and the highest of a table is the first of the greatest rank.
 use mathlib.Core.Path.{_≡_, refl, ap, _∙_}
+use mathlib.Core.Bool.{true}
 use mathlib.Core.Logic.{_⊎_, inl, inr, ⊎-elim}
 use Prim.Native.Nat.{ℕ, zero, suc, _+_, _-_, _/_, _%_, _^_, _<_, _≤_}
 use native.Mathlib.Nat.{le-refl, le-trans, le-suc, not-suc-le-zero, lt-irrefl, eq-zero-or-pos}
 use native.Mathlib.Omega.{arith}
 use lib.Dec.{eqb}
 use lib.Pow.{field, mod-mod-pow}
-use borrow.Author.Tests.{ne-eqb, lt-ltb, le-ltb}
+use borrow.Author.Tests.{ne-eqb, lt-ltb, le-ltb, ltb-true}
 use Rattle.loops.specs.Below.{foldBelow}
 use Rattle.loops.proofs.Laws.Order.{below-suc, lt-or-ge}
+use Rattle.loops.proofs.Laws.Truth.{and-left, and-right}
 use Rattle.group.specs.Heads.{has}
-use Rattle.group.specs.Words.{heads, num, session, rank, highestOf}
+use Rattle.group.specs.Words.{heads, num, session, rank, sound, sessionWord, highestOf}
 
 pub num-session : (n s : ℕ) → s < 65536 → num (session n s) ≡ n
 num-session n s h = omega arith
@@ -94,3 +96,13 @@ highest-from (suc n) f =
     (λ (i, l, e, first). inr (i, le-trans l (le-suc n), b .1 ∙ e, first))
     (highest-from n f))
     (highest-step n f)
+
+-- ---- a session word is sound and numbered within the limits
+
+pub word-sound : (w : ℕ) → sessionWord w ≡ true → sound w ≡ true
+unfolding sessionWord
+word-sound w e = and-left (sound w) _ e
+
+pub word-number : (w : ℕ) → sessionWord w ≡ true → num w ≤ 4294967295
+unfolding sessionWord
+word-number w e = omega (arith, ltb-true w 281474976710656 (and-right (sound w) _ e))

@@ -1,5 +1,4 @@
--- The refusals of each call one by one: when a call is refused with which number, when it is not, and that a call that is not refused passed every test.
--- Each law puts the tests that led there into the definition.
+-- A call that is not refused passed every test of its refusals, in their order.
 use mathlib.Core.Bool.{Bool, true, false, not, cond, _||_}
 use mathlib.Core.Path.{_≡_, refl}
 use mathlib.Core.List.{List}
@@ -14,8 +13,6 @@ use Rattle.head.specs.declared.session.Session.{Session}
 use Rattle.head.specs.Fits.{usable}
 use Rattle.head.specs.Refusals.{enterRefusal, stateRefusal, attemptRefusal, decideRefusal, formRefusal, writeStateRefusal, writeAttemptRefusal}
 use Rattle.head.proofs.Laws.Fits.{usable-stage}
-
--- ---- a call that is not refused passed every test
 
 spared : (b : Bool) (n k : ℕ) → 0 < n → cond b n k ≡ 0 → (b ≡ false) × (k ≡ 0)
 spared true n k l e = absurd (omega arith)

@@ -3,7 +3,9 @@ use mathlib.Core.Path.{_≡_, refl, sym, ap, _∙_}
 use mathlib.Core.List.{List, [], _∷_, _++_}
 use Prim.Native.Nat.{ℕ, _+_, _*_}
 use native.Mathlib.Omega.{arith}
+use lib.Dec.{eqb}
 use lib.ListN.{length, drop, length-append}
+use Rattle.loops.proofs.Laws.Truth.{cond-elim}
 use Rattle.group.specs.declared.answers.Refusal.{Refusal}
 use Rattle.group.specs.Answers.{refusalNumber, written, refused}
 use Rattle.record.specs.Layout.{own}
@@ -17,7 +19,7 @@ use Rattle.telling.specs.Telling.{tells}
 use Rattle.telling.proofs.Laws.Telling.{tells-tidy}
 use Rattle.head.specs.declared.session.Session.{Session}
 use Rattle.head.specs.Refusals.{writeStateRefusal, writeAttemptRefusal}
-use Rattle.head.specs.Calls.{writes, writeStateSpec, writeAttemptSpec}
+use Rattle.head.specs.Calls.{Wrote, writes, writeStateSpec, writeAttemptSpec}
 use Rattle.head.proofs.Laws.Fits.{usable-whole}
 use Rattle.head.proofs.Laws.Refusals.{may-write-state, may-write-attempt}
 use Rattle.head.proofs.Laws.Calls.{refused-by, allowed-by}
@@ -79,3 +81,17 @@ module _ (s : Session) (r out : List ℕ) (n : ℕ) (left : List ℕ) where
       let m = may-write-attempt s r (length out) z in
       let w = e ∙ sym (attempt-written (s .view) (own r) out _ (m .long) refl) in
       writes-done n _ s _ out left z (attempt-length (s .view) (own r) ∙ sym (same-chars w)) (same-out w ∙ rw (← (same-chars w)))
+
+-- ---- a call that writes hands back the session that it was given
+
+hands-back : (n : ℕ) (s : Session) (text out : List ℕ) → writes n s text out .session ≡ s
+unfolding writes
+hands-back n s text out = cond-elim (λ (w : Wrote). w .session ≡ s) (eqb n 0) _ _ (λ e. refl) (λ e. refl)
+
+pub state-hands-back : (s : Session) (r out : List ℕ) → writeStateSpec s r out .session ≡ s
+unfolding writeStateSpec
+state-hands-back s r out = hands-back _ s _ out
+
+pub attempt-hands-back : (s : Session) (r out : List ℕ) → writeAttemptSpec s r out .session ≡ s
+unfolding writeAttemptSpec
+attempt-hands-back s r out = hands-back _ s _ out

@@ -77,6 +77,10 @@ failed r b e f = sym e ∙ not-true r f
 pub passed : (r b : Bool) → r ≡ b → not r ≡ false → b ≡ true
 passed r b e f = sym e ∙ not-false r f
 
+pub or-false : (a : Bool) → a ≡ (a || false)
+or-false true = refl
+or-false false = refl
+
 -- a choice is what both sides are
 pub cond-elim {ℓ κ} : {A : Type ℓ} (P : A → Type κ) (b : Bool) (x y : A) → (b ≡ true → P x) → (b ≡ false → P y) → P (cond b x y)
 cond-elim P true x y f g = f refl

@@ -1,3 +1,4 @@
+-- At each turn the number is the fold over the places passed.
 use mathlib.Core.Path.{_≡_, sym, ap, _∙_}
 use Rattle.loops.proofs.Laws.Fold.{fold-none, fold-again, fold-end}
 use borrow.Author.Needs.{needs}

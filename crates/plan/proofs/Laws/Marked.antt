@@ -1,6 +1,6 @@
 -- What a marks: the heads that `adding` adds are those that pass its test, so that the marks after a are the marks before and the heads to mark, and are
 -- still marks that a whole record may have.
-use mathlib.Core.Path.{_≡_, refl, sym, ap, _∙_}
+use mathlib.Core.Path.{_≡_, sym, ap, _∙_}
 use mathlib.Core.Bool.{Bool, true, false, not, cond, _&&_, _||_}
 use mathlib.Core.Logic.{_⊎_, inl, inr, ⊎-elim}
 use mathlib.Core.List.{List}
@@ -10,7 +10,7 @@ use native.Mathlib.Omega.{arith}
 use lib.Dec.{eqb, ltb}
 use lib.Bits.{bitAnd, and-le-l, and-le-r}
 use borrow.Author.Tests.{eqb-true, eqb-false, eq-eqb, ne-eqb, ltb-true, lt-ltb}
-use Rattle.loops.proofs.Laws.Truth.{and-left, and-right, and-both, or-cases, or-left, or-right, passes-or-fails, not-true}
+use Rattle.loops.proofs.Laws.Truth.{and-left, and-right, and-both, or-cases, or-left, or-right, passes-or-fails, not-true, or-false}
 use Rattle.loops.proofs.Laws.Order.{below-suc}
 use Rattle.loops.proofs.Laws.Fold.{fold-keeps}
 use Rattle.group.specs.Heads.{has, common, either, less, only, within}
@@ -27,10 +27,6 @@ use Rattle.plan.specs.Marks.{toMark, adding, marked}
 use Rattle.plan.proofs.Laws.Marks.{mark-none}
 
 -- ---- the heads added
-
-or-false : (a : Bool) → a ≡ (a || false)
-or-false true = refl
-or-false false = refl
 
 one-more : (b : Bool) (s h q : ℕ) → has (cond b (either s (only h)) s) q ≡ (has s q || (b && eqb h q))
 one-more true s h q = has-either s (only h) q ∙ ap (λ (t : Bool). has s q || t) (has-only h q)

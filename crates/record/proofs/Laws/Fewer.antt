@@ -1,6 +1,6 @@
 -- The tests by which code tells a whole record: fewer than the definition's, which follow from them. A session with own head is sound, one that is numbered
 -- at most as another within the limits is within them, and a used place's number is above that of a free one.
-use mathlib.Core.Bool.{Bool, true, false, not, _&&_, _||_}
+use mathlib.Core.Bool.{Bool, true, false, not, _&&_}
 use mathlib.Core.Logic.{⊎-elim}
 use mathlib.Core.Path.{_≡_, refl, sym, ap, _∙_}
 use mathlib.Core.List.{List}
@@ -11,13 +11,13 @@ use lib.Dec.{eqb, leb, ltb}
 use lib.ListN.{length}
 use borrow.Author.Tests.{ne-eqb, eqb-false, leb-true, le-leb, ltb-true, lt-ltb}
 use Rattle.loops.specs.Below.{allBelow}
-use Rattle.loops.proofs.Laws.Truth.{and-left, and-right, and-both, not-both, not-true, fails-if, test-ext}
+use Rattle.loops.proofs.Laws.Truth.{and-left, and-right, and-both, not-both, not-true, fails-if, test-ext, or-false}
 use Rattle.loops.proofs.Laws.Tests.{all-at, all-of}
-use Rattle.group.specs.Heads.{has, shared, within}
+use Rattle.group.specs.Heads.{has, shared}
 use Rattle.group.specs.Words.{heads, num, rank, sound, sessionWord, primaryOk, formedOk}
 use Rattle.group.specs.Quorum.{enough}
-use Rattle.group.proofs.Laws.Words.{rank-none, rank-some, none-or-some}
-use Rattle.group.proofs.Laws.Formed.{formed-usual, formed-cases, has-sound, primary-sound, formed-sound, formed-number}
+use Rattle.group.proofs.Laws.Words.{rank-none, rank-some, none-or-some, word-sound, word-number}
+use Rattle.group.proofs.Laws.Formed.{rank-order, formed-usual, formed-cases, has-sound, primary-sound, formed-sound, formed-number}
 use Rattle.record.specs.Layout.{core, least, own, entered, number, primary, placeAt, marksAt}
 use Rattle.record.specs.Whole.{groupWhole, limitsWhole, primaryWhole, formedWhole, usedOk, placeWhole, apart, apartWhole, topWhole, marksWhole, whole}
 use Rattle.record.proofs.Laws.Whole.{make-whole, whole-parts, used-parts, make-used, place-cases, apart-at, apart-of, free-whole, free-apart, marks-free}
@@ -27,18 +27,10 @@ implied : (a b : Bool) → (b ≡ true → a ≡ true) → b ≡ (a && b)
 implied a true f = sym (and-both a true (f refl) refl)
 implied a false f = test-ext false (a && false) (λ e. and-both a false (f e) e) (and-right a false)
 
--- a sound session numbered within the limits is a session word, and the other way
+-- a sound session numbered within the limits is a session word
 word-of : (w : ℕ) → sound w ≡ true → num w ≤ 4294967295 → sessionWord w ≡ true
 unfolding sessionWord
 word-of w s n = and-both (sound w) _ s (lt-ltb w 281474976710656 (omega arith))
-
-word-sound : (w : ℕ) → sessionWord w ≡ true → sound w ≡ true
-unfolding sessionWord
-word-sound w e = and-left (sound w) _ e
-
-word-number : (w : ℕ) → sessionWord w ≡ true → num w ≤ 4294967295
-unfolding sessionWord
-word-number w e = let l = ltb-true w 281474976710656 (and-right (sound w) _ e) in omega arith
 
 -- ---- words 0 to 3
 
@@ -90,26 +82,11 @@ formed-test own p q w h s =
     let c = formed-cases own p q w e in
     word-of w (formed-sound own p q w h (word-sound p s) c) (formed-number own p q w 4294967295 (word-number p s) c))
 
--- a session ranks below another as its number is below
-below-ranked : (p w : ℕ) → (w ≡ 0 → ⊥) → ltb (num w) (num p) ≡ ltb (rank w) (rank p)
-below-ranked p w u =
-    test-ext _ _
-    (λ t.
-    let l : num w < num p = ltb-true (num w) (num p) t in
-    lt-ltb (rank w) (rank p) (⊎-elim (λ z. absurd (lt-irrefl 0 (omega (arith, ap num z)))) (λ e. omega (arith, rank-some w u)) (none-or-some p)))
-    (λ t.
-    let l : rank w < rank p = ltb-true (rank w) (rank p) t in
-    lt-ltb (num w) (num p) (⊎-elim (λ z. absurd (lt-irrefl 0 (omega (arith, ap rank z, rank-none)))) (λ e. omega (arith, rank-some w u)) (none-or-some p)))
-
 -- for a head of last primary, for another with none, and for another with a session
 module _ (own p q w : ℕ) (h : own < 16) (s : sessionWord p ≡ true) where
   pub formed-among : has p q ≡ true → eqb w p ≡ (sessionWord w && formedOk own p q w)
   unfolding formedOk
-  formed-among a = (rw a (same (eqb w p))) ∙ formed-test own p q w h s
-    where
-      same : (b : Bool) → b ≡ (b || false)
-      same true = refl
-      same false = refl
+  formed-among a = (rw a (or-false (eqb w p))) ∙ formed-test own p q w h s
 
   pub formed-none : has p q ≡ false → w ≡ 0 → true ≡ (sessionWord w && formedOk own p q w)
   formed-none o z = sym (formed-usual own p q w (z ∙ rw o)) ∙ formed-test own p q w h s
@@ -117,7 +94,7 @@ module _ (own p q w : ℕ) (h : own < 16) (s : sessionWord p ≡ true) where
   pub formed-other : {a b : Bool} {n k : ℕ} → has p q ≡ false → (w ≡ 0 → ⊥) → a ≡ has w own → b ≡ has w q → n ≡ num w → k ≡ num p
       → (a && b && ltb n k) ≡ (sessionWord w && formedOk own p q w)
   unfolding formedOk
-  formed-other o u ea eb en ek = rw (ea, eb, en, ek, below-ranked p w u) (in-order o u) ∙ formed-test own p q w h s
+  formed-other o u ea eb en ek = rw (ea, eb, en, ek, rank-order w p u) (in-order o u) ∙ formed-test own p q w h s
     where
       in-order : has p q ≡ false → (w ≡ 0 → ⊥) → (has w own && has w q && ltb (rank w) (rank p)) ≡ formedOk own p q w
       in-order o u = rw (o, ne-eqb w 0 u)

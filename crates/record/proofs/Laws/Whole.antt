@@ -23,10 +23,6 @@ pub other-length : (r : List ℕ) → (length r ≡ 52 → ⊥) → whole r ≡ 
 unfolding whole
 other-length r h = ap (λ (b : Bool). b && wordsWhole r) (ne-eqb (length r) 52 h)
 
-pub right-length : (r : List ℕ) → length r ≡ 52 → whole r ≡ wordsWhole r
-unfolding whole
-right-length r h = ap (λ (b : Bool). b && wordsWhole r) (eq-eqb (length r) 52 h)
-
 pub whole-length : (r : List ℕ) → whole r ≡ true → length r ≡ 52
 unfolding whole
 whole-length r e = eqb-true (length r) 52 (and-left (eqb (length r) 52) (wordsWhole r) e)

@@ -15,7 +15,7 @@ use Rattle.loops.proofs.Laws.Truth.{and-right, cond-elim, passes-or-fails, clas
 use Rattle.loops.proofs.Laws.Lists.{collect-cong}
 use Rattle.group.specs.Heads.{has}
 use Rattle.group.specs.Words.{num, rank, sessionWord}
-use Rattle.group.proofs.Laws.Words.{rank-none, rank-some, none-or-some}
+use Rattle.group.proofs.Laws.Words.{rank-none, rank-some, none-or-some, word-number}
 use Rattle.store.specs.Desk.{Store, stored, apply, storeIf}
 use Rattle.store.proofs.Laws.Put.{stored-length, apply-storeIf}
 use Rattle.store.proofs.Laws.Script.{apply-append, apply-length}
@@ -34,7 +34,7 @@ use Rattle.recovery.proofs.Laws.Again.{agrees-number, agrees-formed, ag
 use Rattle.recovery.proofs.Laws.Still.{place-below}
 use Rattle.recovery.proofs.Laws.Cut.{AllAgree, AllAgree.none as none, AllAgree.more as more, all-append, all-collect, if-agrees, change-sound}
 use Rattle.recovery.proofs.Laws.Follows.{Last.rises as rises, Placed, Placed.free as free, Placed.kept as kept, follows-whole}
-use Rattle.recovery.proofs.Laws.Small.{marks-stay, none-new, word-limit}
+use Rattle.recovery.proofs.Laws.Small.{marks-stay, none-new}
 
 -- ---- the stores of last formed, and of cleared places
 
@@ -153,7 +153,7 @@ module _ (r : List ℕ) (w : ℕ) (good : Whole r) (sw : sessionWord w ≡ true)
         group = s .settings-is;
         view = rw (s .entered-is) (good .view);
         up = omega (arith, s .number-is);
-        top = omega (arith, s .number-is, good .top, word-limit w sw);
+        top = omega (arith, s .number-is, good .top, word-number w sw);
         last = rises (rw (s .primary-is) sw) (rw (s .primary-is) hw) (rw (s .primary-is) hi) (omega (arith, s .number-is, ap num (s .primary-is)));
         formed = λ q h. rw (s .primary-is) (s .formed-is q h);
         places = places;

@@ -9,12 +9,12 @@ use native.Mathlib.Nat.{le-antisymm}
 use native.Mathlib.Omega.{arith}
 use lib.Dec.{eqb, leb}
 use lib.ListN.{length}
-use borrow.Author.Tests.{eqb-true, eqb-false, ltb-true}
-use Rattle.loops.proofs.Laws.Truth.{and-right, cond-same, passes-or-fails}
+use borrow.Author.Tests.{eqb-true, eqb-false}
+use Rattle.loops.proofs.Laws.Truth.{cond-same, passes-or-fails}
 use Rattle.group.specs.Heads.{has}
-use Rattle.group.specs.Words.{heads, num, rank, sound, sessionWord}
+use Rattle.group.specs.Words.{heads, num, rank, sessionWord}
 use Rattle.group.specs.Quorum.{enough}
-use Rattle.group.proofs.Laws.Words.{rank-none, rank-some, none-or-some}
+use Rattle.group.proofs.Laws.Words.{rank-none, rank-some, none-or-some, word-number}
 use Rattle.store.specs.Desk.{stored, apply}
 use Rattle.store.proofs.Laws.Put.{stored-length}
 use Rattle.record.specs.Layout.{settings, core, least, own, entered, number, primary, formedFor, placeAt, marksAt, storeEntered, storeNumber, storePlace, storeMarks}
@@ -145,10 +145,6 @@ clear-sound r i e l =
 
 -- ---- the attempt
 
-pub word-limit : (v : ℕ) → sessionWord v ≡ true → num v ≤ 4294967295
-unfolding sessionWord
-word-limit v e = omega (arith, ltb-true v 281474976710656 (and-right (sound v) _ e))
-
 module _ (r : List ℕ) (w : Whole r) (i v : ℕ) (l : i < 16) (up : number r < num v) where
   -- the place word is stored
   x : List ℕ
@@ -205,7 +201,7 @@ module _ (r : List ℕ) (w : Whole r) (i v : ℕ) (l : i < 16) (up : number r < 
   attempt-whole : placeAt r i ≡ 0 → sessionWord v ≡ true → has v (own r) ≡ true → enough (core r) (least r) (heads v) ≡ true → whole y ≡ true
   unfolding y
   attempt-whole z f m b =
-      steady r w s (stored-length (storeNumber (num v)) x ∙ long) (w .view) (omega arith) (word-limit v f)
+      steady r w s (stored-length (storeNumber (num v)) x ∙ long) (w .view) (omega arith) (word-number v f)
       (place-other r y w i (s .primary-is) there (λ j h n. s .marks-is j h)
       (new used (s .marks-is i l ∙ whole-marks r w i l z) (rw here up)))
       (λ j k h h′ c d. only-here j h c ∙ sym (only-here k h′ d))

@@ -14,7 +14,6 @@ use Rattle.loops.specs.Below.{allBelow}
 use Rattle.loops.proofs.Laws.Truth.{and-left, and-right, and-both, test-ext}
 use Rattle.loops.proofs.Laws.Order.{below-suc}
 use Rattle.loops.proofs.Laws.Tests.{all-at, all-of}
-use Rattle.group.specs.Heads.{has}
 use Rattle.group.specs.Words.{num, primaryOk, formedOk}
 use Rattle.group.proofs.Laws.Formed.{Formed, formed-cases, has-sound, primary-sound, formed-sound, formed-number}
 use Rattle.state.specs.declared.State.{State}

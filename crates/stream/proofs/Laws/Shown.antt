@@ -13,7 +13,7 @@ use Rattle.lines.specs.declared.Read.{Read}
 use Rattle.lines.specs.Hex.{lineEnd, lineOf, restOf}
 use Rattle.lines.specs.Reading.{breaks, judged, readLine}
 use Rattle.lines.specs.Walk.{wholeLines}
-use Rattle.lines.specs.Theorems.{KeptLine, lineWith, written}
+use Rattle.lines.specs.Theorems.{KeptLine, lineWith}
 use Rattle.lines.proofs.Laws.Reading.{first-line}
 use Rattle.lines.proofs.Laws.Writing.{length-attempt-line, length-state-line}
 use Rattle.lines.proofs.Laws.Trip.{from-line}

@@ -1,5 +1,6 @@
 -- The end in numbers is that of the call (`ends-lined`).
-use Rattle.ffi.proofs.Laws.Ends.{ends-lined, state-hands-back}
+use Rattle.ffi.proofs.Laws.Ends.{ends-lined}
+use Rattle.head.proofs.Laws.Writing.{state-hands-back}
 use borrow.Author.Needs.{needs}
 use Rattle.ffi.proofs.calls.head_write_state.Statement.{statement}
 use Rattle.ffi.proofs.calls.head_write_state.Tie as tie
