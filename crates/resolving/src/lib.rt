@@ -71,7 +71,10 @@ fn denies(m: u16, own: usize, w: u64, q: usize, st: State) -> bool
     if !(has_head(w, q) & is_other(m, own, q)) {
         return false;
     }
-    !lists(st, w) & behind(st.primary, w)
+    if lists(st, w) {
+        return false;
+    }
+    behind(st.primary, w)
 }
 
 // Some other member denies session w.

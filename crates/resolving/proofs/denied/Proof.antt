@@ -34,9 +34,7 @@ denies-requires : tie.Need-denies-requires Inv-loop μ-loop
 denies-requires c κs = search needs
 
 returns : tie.Need-returns Inv-loop μ-loop
-returns c =
-    let b = c .before .before .before in
-    sym (any-of 16 _ _ (b .loop-test .taken) (sym (denies-by _ _ _ _ (b .before .before .own .ensures .0) _) ∙ sym (c .before .denies .ensures) ∙ c .if1 .taken))
+returns c = sym (any-of 16 _ _ (c .before .before .before .loop-test .taken) (sym (c .before .denies .ensures ∙ denies-by _ _ _ _ (c .before .before .before .before .before .own .ensures .0) _) ∙ c .if1 .taken))
 
 add-q : tie.Need-add-q Inv-loop μ-loop
 add-q c = omega arith
@@ -45,9 +43,7 @@ loop-less : tie.Need-loop-less Inv-loop μ-loop
 loop-less c = omega arith
 
 loop-again : tie.Need-loop-again Inv-loop μ-loop
-loop-again c =
-    let b = c .before .before .before in
-    (omega arith, λ k h. each-suc _ (b .before .loop .inv .1) (sym (denies-by _ _ _ _ (b .before .before .own .ensures .0) _) ∙ sym (c .before .denies .ensures) ∙ c .if1 .left) k (omega arith))
+loop-again c = (omega arith, λ k h. each-suc _ (c .before .before .before .before .loop .inv .1) (sym (c .before .denies .ensures ∙ denies-by _ _ _ _ (c .before .before .before .before .before .own .ensures .0) _) ∙ c .if1 .left) k (omega arith))
 
 returns-2 : tie.Need-returns-2 Inv-loop μ-loop
 returns-2 c = sym (any-not 16 _ (λ k h. c .before .loop .inv .1 k (omega (arith, c .loop-test .left))))
