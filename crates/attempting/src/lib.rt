@@ -89,12 +89,13 @@ fn own_weighed(rec: &[u64], m: u16, top: u64) -> bool
     requires { ⌜ length (now rec) ≡ 52 ⌝ }
     ensures { λ r. ⌜ r ≡ ownWeighed m (now (rec .entry)) top ⌝ }
 {
-    let mut ok = true;
     for i in 0..Group::PLACES {
         let w = place_at(rec, i);
-        ok = ok & weighed(rec, m, top, w);
+        if !weighed(rec, m, top, w) {
+            return false;
+        }
     }
-    ok
+    true
 }
 
 fn state_weighed(rec: &[u64], m: u16, top: u64, st: State) -> bool
@@ -134,12 +135,14 @@ fn all_weighed(rec: &[u64], m: u16, held: Held, top: u64) -> bool
     requires { ⌜ length (now rec) ≡ 52 ⌝ }
     ensures { λ r. ⌜ r ≡ allBelow 16 (listedWeighed m held (now (rec .entry)) top) ⌝ }
 {
-    let mut ok = true;
-    for q in 0..Group::HEADS {
+    let end = members_end(m);
+    for q in 0..end {
         let st = held.of[q];
-        ok = ok & listed_weighed(rec, m, top, q, st);
+        if !listed_weighed(rec, m, top, q, st) {
+            return false;
+        }
     }
-    ok
+    true
 }
 
 // M passes for the highest primary, top, and for all that is listed above it.

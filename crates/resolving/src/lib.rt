@@ -43,11 +43,15 @@ fn lists(st: State, w: u64) -> bool
 {
     let places = st.places;
     let count = st.count;
-    let mut found = false;
     for j in 0..Group::PLACES {
-        found = found | ((j < count) & (places[j] == w));
+        if count <= j {
+            return false;
+        }
+        if places[j] == w {
+            return true;
+        }
     }
-    found
+    false
 }
 
 // Last primary p has a lower number than session w, or the same number and other heads.
@@ -67,7 +71,10 @@ fn denies(m: u16, own: usize, w: u64, q: usize, st: State) -> bool
     if !(has_head(w, q) & is_other(m, own, q)) {
         return false;
     }
-    !lists(st, w) & behind(st.primary, w)
+    if lists(st, w) {
+        return false;
+    }
+    behind(st.primary, w)
 }
 
 // Some other member denies session w.
@@ -76,12 +83,13 @@ fn denied(rec: &[u64], m: u16, held: Held, w: u64) -> bool
     ensures { λ r. ⌜ r ≡ anyBelow 16 (deniesOf m held (now (rec .entry)) w) ⌝ }
 {
     let p = own(rec);
-    let mut found = false;
     for q in 0..Group::HEADS {
         let st = held.of[q];
-        found = found | denies(m, p, w, q, st);
+        if denies(m, p, w, q, st) {
+            return true;
+        }
     }
-    found
+    false
 }
 
 fn to_clear(rec: &[u64], m: u16, held: Held, i: usize) -> bool
