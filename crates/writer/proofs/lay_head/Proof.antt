@@ -13,7 +13,7 @@ lay-four-requires : tie.Need-lay-four-requires
 lay-four-requires c κs = simp length-set (omega arith)
 
 slice-write-a-2 : tie.Need-slice-write-a-2
-slice-write-a-2 c = search needs
+slice-write-a-2 c = omega (arith, length-set (c .before .before .before .before .before .args .a .now) 0 (c .before .before .before .before .before .args .kind))
 
 same-length : tie.Need-same-length
 same-length c = simp length-set (omega (arith, length-set (c .before .before .before .before .before .args .a .now) 0 (c .before .before .before .before .before .args .kind)))
