@@ -8,7 +8,7 @@ use native.Mathlib.Numerals.{add-one}
 use native.Mathlib.Omega.{arith}
 use borrow.Author.Tests.{le-leb, lt-leb}
 use lib.ListN.{length, getD, take, drop, set, length-append, length-map}
-use lib.Seq.{sets, sets-eq, take-suc, length-take-le}
+use lib.Seq.{sets, sets-eq, take-suc, take-add, drop-length, length-take-le}
 use Rattle.state.specs.declared.State.{State}
 use Rattle.lines.specs.Hex.{digit, hexOf}
 use Rattle.lines.specs.Writing.{bytes2, bytes4, bytes6, flat, headBytes, fieldBytes, placeBytes, attemptFrame, stateFrame, lineFor, attemptLine, stateLine, spell, wrote, writeAttempt, writeState}
@@ -42,6 +42,10 @@ flat-take ws i h =
     ap (λ (r : List ℕ). flat (take i ws) ++ r) (sym (append-nil (bytes6 (getD ws i 0))))
     ∙ (sym (flat-append (take i ws) (getD ws i 0 ∷ [])) ∙ ap flat (sym (take-suc ws i 0 h) ∙ ap (λ (k : ℕ). take k ws) (sym (add-one i))))
 
+-- as a loop over blocks takes it
+pub flat-block : (ws : List ℕ) (i n : ℕ) → flat (take i ws) ++ flat (take n (drop i ws)) ≡ flat (take (i + n) ws)
+flat-block ws i n = sym (flat-append (take i ws) (take n (drop i ws))) ∙ ap flat (sym (take-add i n ws))
+
 pub length-flat-take : (ws : List ℕ) (i : ℕ) → i ≤ length ws → length (flat (take i ws)) ≡ i * 6
 length-flat-take ws i h = length-flat (take i ws) ∙ ap (λ (k : ℕ). k * 6) (length-take-le i ws h)
 
@@ -52,6 +56,59 @@ sets-append l i [] ws = ap (λ (k : ℕ). sets l k ws) (add-zero i)
 sets-append l i (a ∷ vs) ws =
     ap (λ (k : ℕ). sets (sets (set l i a) (suc i) vs) k ws) (add-suc i (length vs) ∙ sym (suc-add i (length vs)))
     ∙ sets-append (set l i a) (suc i) vs ws
+
+-- bytes laid out one piece after another are laid out together
+sets-then : (d e g : List ℕ) (at k : ℕ) (f h : List ℕ) → e ≡ sets d at f → k ≡ at + length f → g ≡ sets e k h → g ≡ sets d at (f ++ h)
+sets-then d e g at k f h p q r = r ∙ (ap (λ (x : List ℕ). sets x k h) p ∙ (ap (λ (x : ℕ). sets (sets d at f) x h) q ∙ sets-append d at f h))
+
+pub sets-none : (d : List ℕ) (at : ℕ) → d ≡ sets d at (flat [])
+unfolding flat
+sets-none d at = refl
+
+pub sets-two : (d : List ℕ) (at a b : ℕ) → set (set d at a) (at + 1) b ≡ sets d at (a ∷ b ∷ [])
+sets-two d at a b = rw (add-one at)
+
+module _ (d e g : List ℕ) (at v : ℕ) where
+  pub four-laid : e ≡ sets d at (bytes2 (v / 65536)) → g ≡ sets e (at + 2) (bytes2 (v % 65536)) → g ≡ sets d at (bytes4 v)
+  unfolding bytes4 bytes2
+  four-laid p q = sets-then d e g at (at + 2) (bytes2 (v / 65536)) (bytes2 (v % 65536)) p refl q
+
+  pub six-laid : e ≡ sets d at (bytes4 (v / 65536)) → g ≡ sets e (at + 4) (bytes2 (v % 65536)) → g ≡ sets d at (bytes6 v)
+  unfolding bytes6 bytes4 bytes2
+  six-laid p q = sets-then d e g at (at + 4) (bytes4 (v / 65536)) (bytes2 (v % 65536)) p refl q
+
+pub length-six : (v : ℕ) → length (bytes6 v) ≡ 6
+unfolding bytes6 bytes4 bytes2
+length-six v = refl
+
+pub head-laid : (d g : List ℕ) (kind view sender : ℕ) → g ≡ sets (set d 0 kind) 1 (bytes4 view) → set g 5 sender ≡ sets d 0 (headBytes kind view sender)
+unfolding headBytes bytes4 bytes2
+head-laid d g kind view sender p = ap (λ (x : List ℕ). set x 5 sender) p
+
+-- the start of a state's frame
+pub length-start : (k v s n p : ℕ) → length (headBytes k v s ++ bytes4 n ++ bytes6 p) ≡ 16
+unfolding headBytes bytes6 bytes4 bytes2
+length-start k v s n p = refl
+
+pub start-laid : (d e f g : List ℕ) (head : List ℕ) (n p : ℕ) → length head ≡ 6 → e ≡ sets d 0 head → f ≡ sets e 6 (bytes4 n) → g ≡ sets f 10 (bytes6 p)
+    → g ≡ sets d 0 (head ++ bytes4 n ++ bytes6 p)
+unfolding bytes6 bytes4 bytes2
+start-laid d e f g head n p l q r s =
+    let k : 10 ≡ 0 + length (head ++ bytes4 n) = omega (arith, l, length-append head (bytes4 n)) in
+    sets-then d f g 0 10 (head ++ bytes4 n) (bytes6 p) (sets-then d e f 0 6 head (bytes4 n) q (omega (arith, l)) r) k s
+
+-- one more session of a block
+pub words-laid : (d e g ws : List ℕ) (i k w : ℕ) → i < length ws → k ≡ i * 6 → w ≡ getD ws i 0 → e ≡ sets d 0 (flat (take i ws)) → g ≡ sets e k (bytes6 w)
+    → g ≡ sets d 0 (flat (take (i + 1) ws))
+words-laid d e g ws i k w h m n p q =
+    let l : k ≡ 0 + length (flat (take i ws)) = omega (arith, m, length-flat-take ws i (omega arith)) in
+    sets-then d e g 0 k (flat (take i ws)) (bytes6 w) p l q ∙ ap (sets d 0) (ap (λ (x : ℕ). flat (take i ws) ++ bytes6 x) n ∙ flat-take ws i h)
+
+-- bytes that fill a block are the block
+pub laid : (d x f : List ℕ) → length f ≡ length d → x ≡ sets d 0 f → x ≡ f
+laid d x f h e =
+    let z : 0 + length f ≡ length d = omega (arith, h) in
+    e ∙ (sets-eq f d 0 (omega (arith, h)) ∙ (ap (λ (k : ℕ). f ++ drop k d) z ∙ (ap (λ (r : List ℕ). f ++ r) (drop-length d) ∙ append-nil f)))
 
 -- one piece after another is both together
 spell-spell : (d : List ℕ) (at k : ℕ) (f g : List ℕ) → k ≡ at + length f → spell (spell d at f) k g ≡ spell d at (f ++ g)
@@ -66,6 +123,17 @@ spell-then d e g at k f h p q r = r ∙ (ap (λ (x : List ℕ). spell x k h) p �
 pub spell-none : (d : List ℕ) (at : ℕ) → d ≡ spell d at (flat [])
 unfolding spell hexOf flat
 spell-none d at = refl
+
+pub spell-start : (d : List ℕ) (at : ℕ) (s : List ℕ) → d ≡ spell d at (take 0 s)
+unfolding spell hexOf
+spell-start d at s = refl
+
+-- as a loop over bytes takes it
+pub spell-more : (d e g : List ℕ) (at i : ℕ) (s : List ℕ) → i < length s → e ≡ spell d at (take i s) → g ≡ spell e (at + i) (getD s i 0 ∷ [])
+    → g ≡ spell d at (take (i + 1) s)
+spell-more d e g at i s h p q =
+    let l : at + i ≡ at + length (take i s) = omega (arith, length-take-le i s (omega arith)) in
+    spell-then d e g at (at + i) (take i s) (getD s i 0 ∷ []) p l q ∙ ap (spell d at) (sym (take-suc s i 0 h) ∙ ap (λ (k : ℕ). take k s) (sym (add-one i)))
 
 pub spell-byte : (d : List ℕ) (at b : ℕ) → set (set d (at * 2) (digit (b / 16))) (at * 2 + 1) (digit (b % 16)) ≡ spell d at (b ∷ [])
 unfolding spell hexOf
@@ -93,6 +161,12 @@ pub length-fields : (st : State) → length (st .formed) ≡ 16 → length (fiel
 unfolding fieldBytes bytes6 bytes4 bytes2
 length-fields st h = omega (arith, length-flat (st .formed))
 
+-- the start and the last formed are the head and the fields
+pub start-fields : (head : List ℕ) (st : State) → head ++ bytes4 (st .number) ++ bytes6 (st .primary) ++ flat (st .formed) ≡ head ++ fieldBytes st
+unfolding fieldBytes
+start-fields head st =
+    append-assoc (head ++ bytes4 (st .number)) (bytes6 (st .primary)) (flat (st .formed)) ∙ append-assoc head (bytes4 (st .number)) (bytes6 (st .primary) ++ flat (st .formed))
+
 length-places : (st : State) → st .count ≤ length (st .places) → length (placeBytes st) ≡ 1 + 6 * st .count
 unfolding placeBytes
 length-places st h = omega (arith, length-flat-take (st .places) (st .count) h)
@@ -118,6 +192,10 @@ state-line d x v s st h k m e =
     ap (λ (y : List ℕ). set y (226 + 12 * st .count) 10) (e ∙ ap (spell d 0) (append-assoc (headBytes 1 v s) (fieldBytes st) (placeBytes st)))
     ∙ spell-line d (stateFrame v s st) (226 + 12 * st .count) (omega arith) (omega arith)
     ∙ ap (λ (y : ℕ). stateLine v s st ++ drop y d) q
+
+pub attempt-line : (d x : List ℕ) (v s : ℕ) → 13 ≤ length d → x ≡ spell d 0 (headBytes 2 v s) → set x 12 10 ≡ attemptLine v s ++ drop 13 d
+unfolding attemptLine attemptFrame headBytes bytes4 bytes2
+attempt-line d x v s h e = ap (λ (y : List ℕ). set y 12 10) e ∙ spell-line d (headBytes 2 v s) 12 refl h
 
 length-line : (f : List ℕ) → length (lineFor f) ≡ length f * 2 + 1
 unfolding lineFor

@@ -1,29 +1,36 @@
--- Pieces spelled one after the other are spelled together.
-use Rattle.lines.proofs.Laws.Writing.{spell-then}
-use Rattle.lines.specs.Writing.{bytes2, bytes4, bytes6}
-use mathlib.Core.Path.{refl}
+-- Six bytes fill their block, and the block is spelled.
+use Rattle.lines.proofs.Laws.Writing.{laid, length-six}
+use Rattle.lines.specs.Writing.{spell}
+use mathlib.Core.Path.{_∙_, ap}
 use borrow.Author.Needs.{needs}
 use Rattle.writer.proofs.put_six.Statement.{statement}
 use Rattle.writer.proofs.put_six.Tie as tie
 
-put-four-requires : tie.Need-put-four-requires
-put-four-requires c κs = search needs
+slice-aggregate-lay-six : tie.Need-slice-aggregate-lay-six
+slice-aggregate-lay-six c = search needs
 
-add-put-two : tie.Need-add-put-two
-add-put-two c = search needs
+lay-six-requires : tie.Need-lay-six-requires
+lay-six-requires c κs = search needs
 
-put-two-requires : tie.Need-put-two-requires
-put-two-requires c κs = search needs
+slice-aggregate-put-bytes : tie.Need-slice-aggregate-put-bytes
+slice-aggregate-put-bytes c = search needs
+
+put-bytes-requires : tie.Need-put-bytes-requires
+put-bytes-requires c κs = search needs
 
 same-length : tie.Need-same-length
 same-length c = search needs
 
 returns : tie.Need-returns
-unfolding bytes2 bytes4 bytes6
-returns c =
-    let e = c .before .before in
-    spell-then _ _ _ _ _ _ _ (e .before .before .before .before .put-four .ensures) refl (e .put-two .ensures)
+returns c = c .before .before .put-bytes .ensures ∙ ap (spell _ _) (laid _ _ _ (length-six _) (c .before .before .before .before .before .before .lay-six .ensures))
 
 pub put-six-spec : {M : Type 1} → statement M
 put-six-spec =
-    tie.close (tie.spec put-four-requires add-put-two put-two-requires same-length returns)
+    tie.close
+    (tie.spec
+    slice-aggregate-lay-six
+    lay-six-requires
+    slice-aggregate-put-bytes
+    put-bytes-requires
+    same-length
+    returns)
