@@ -61,10 +61,6 @@ sets-append l i (a ∷ vs) ws =
 sets-then : (d e g : List ℕ) (at k : ℕ) (f h : List ℕ) → e ≡ sets d at f → k ≡ at + length f → g ≡ sets e k h → g ≡ sets d at (f ++ h)
 sets-then d e g at k f h p q r = r ∙ (ap (λ (x : List ℕ). sets x k h) p ∙ (ap (λ (x : ℕ). sets (sets d at f) x h) q ∙ sets-append d at f h))
 
-pub sets-none : (d : List ℕ) (at : ℕ) → d ≡ sets d at (flat [])
-unfolding flat
-sets-none d at = refl
-
 pub sets-two : (d : List ℕ) (at a b : ℕ) → set (set d at a) (at + 1) b ≡ sets d at (a ∷ b ∷ [])
 sets-two d at a b = rw (add-one at)
 
@@ -120,13 +116,9 @@ spell-spell d at k f g e =
 pub spell-then : (d e g : List ℕ) (at k : ℕ) (f h : List ℕ) → e ≡ spell d at f → k ≡ at + length f → g ≡ spell e k h → g ≡ spell d at (f ++ h)
 spell-then d e g at k f h p q r = r ∙ (ap (λ (x : List ℕ). spell x k h) p ∙ spell-spell d at k f h q)
 
-pub spell-none : (d : List ℕ) (at : ℕ) → d ≡ spell d at (flat [])
-unfolding spell hexOf flat
-spell-none d at = refl
-
-pub spell-start : (d : List ℕ) (at : ℕ) (s : List ℕ) → d ≡ spell d at (take 0 s)
+pub spell-none : (d : List ℕ) (at : ℕ) → d ≡ spell d at []
 unfolding spell hexOf
-spell-start d at s = refl
+spell-none d at = refl
 
 -- as a loop over bytes takes it
 pub spell-more : (d e g : List ℕ) (at i : ℕ) (s : List ℕ) → i < length s → e ≡ spell d at (take i s) → g ≡ spell e (at + i) (getD s i 0 ∷ [])
@@ -140,7 +132,7 @@ unfolding spell hexOf
 spell-byte d at b = rw (add-one (at * 2))
 
 -- the newline after a frame that was spelled from the start
-pub spell-line : (d f : List ℕ) (k : ℕ) → k ≡ length f * 2 → length f * 2 + 1 ≤ length d → set (spell d 0 f) k 10 ≡ lineFor f ++ drop (length f * 2 + 1) d
+spell-line : (d f : List ℕ) (k : ℕ) → k ≡ length f * 2 → length f * 2 + 1 ≤ length d → set (spell d 0 f) k 10 ≡ lineFor f ++ drop (length f * 2 + 1) d
 unfolding spell lineFor
 spell-line d f k e h =
     let m : length (hexOf f ++ (10 ∷ [])) ≡ length f * 2 + 1 = length-append (hexOf f) (10 ∷ []) ∙ ap (λ (x : ℕ). x + 1) (length-hex f) in

@@ -1,5 +1,5 @@
 -- Before turn i the first i sessions of the block are laid out.
-use Rattle.lines.proofs.Laws.Writing.{sets-none, words-laid}
+use Rattle.lines.proofs.Laws.Writing.{words-laid}
 use Rattle.lines.specs.Writing.{flat}
 use lib.ListN.{length, length-drop, take, drop}
 use lib.Seq.{sets, getD-drop}
@@ -17,7 +17,8 @@ abbrev μ-loop : tie.MeasureT-loop
 μ-loop a₀ words from i₀ a i = 8 - i
 
 loop-holds : tie.Need-loop-holds Inv-loop μ-loop
-loop-holds c = (search needs, refl, sets-none _ _)
+unfolding flat
+loop-holds c = (search needs, refl, refl)
 
 mul-lay-six : tie.Need-mul-lay-six Inv-loop μ-loop
 mul-lay-six c = search needs

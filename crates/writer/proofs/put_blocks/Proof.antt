@@ -15,6 +15,7 @@ abbrev μ-loop : tie.MeasureT-loop
 μ-loop out₀ at words n i₀ out i = n - i
 
 loop-holds : tie.Need-loop-holds Inv-loop μ-loop
+unfolding flat
 loop-holds c = (omega arith, refl, spell-none _ _)
 
 sub-loop : tie.Need-sub-loop Inv-loop μ-loop

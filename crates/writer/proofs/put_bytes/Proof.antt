@@ -1,5 +1,5 @@
 -- Before turn i the first i bytes are spelled.
-use Rattle.lines.proofs.Laws.Writing.{spell-start, spell-more}
+use Rattle.lines.proofs.Laws.Writing.{spell-none, spell-more}
 use Rattle.lines.specs.Writing.{spell}
 use lib.ListN.{length, take}
 use lib.Seq.{take-all}
@@ -17,7 +17,7 @@ abbrev μ-loop : tie.MeasureT-loop
 μ-loop out₀ at s i₀ out i = length s - i
 
 loop-holds : tie.Need-loop-holds Inv-loop μ-loop
-loop-holds c = (search needs, refl, spell-start _ _ (c .before .before .args .s .now))
+loop-holds c = (search needs, refl, spell-none _ _)
 
 add-put-byte : tie.Need-add-put-byte Inv-loop μ-loop
 add-put-byte c = search needs
