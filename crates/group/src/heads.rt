@@ -3,7 +3,7 @@ use crate::Group;
 ghost use mathlib.Core.Path.{_≡_};
 ghost use Prim.Native.Nat.{_<_};
 ghost use Rattle.group.specs.Heads.{has, size, either, less, only, within, highest};
-ghost use Rattle.group.specs.Heads.{common as commonOf, shared as sharedOf};
+ghost use Rattle.group.specs.Heads.{shared as sharedOf};
 
 // Head h is in the set. No head above 15 is.
 pub fn holds(set: u16, h: u8) -> bool
@@ -34,12 +34,6 @@ pub fn inside(s: u16, t: u16) -> bool
     ensures { λ r. ⌜ r ≡ within s t ⌝ }
 {
     s & t == s
-}
-
-pub fn common(s: u16, t: u16) -> u16
-    ensures { λ r. ⌜ r ≡ commonOf s t ⌝ }
-{
-    s & t
 }
 
 // The set as a word.
