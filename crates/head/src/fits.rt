@@ -5,12 +5,29 @@ use fitting::heard_fits;
 use fitting::stage::NONE;
 use fitting::stage_fits;
 use fitting::view_fits;
+use group::heads::without_head;
 use record::layout::own;
 use whole::is_whole;
 ghost use mathlib.Core.Path.{_≡_};
 ghost use mathlib.Core.Bool.{true};
+ghost use Prim.Native.Nat.{_<_};
+ghost use Rattle.loops.specs.Below.{allBelow};
 ghost use Rattle.record.specs.Whole.{whole};
+ghost use Rattle.plan.specs.Members.{heldOf};
+ghost use Rattle.fitting.specs.Fits.{stateFits};
 ghost use Rattle.head.specs.Fits.{fits, usable};
+
+// The states held of others. Where none was heard, none is copied.
+fn held_fits(s: Session, me: usize) -> bool
+    requires { ⌜ me < 16 ⌝ }
+    ensures { λ r. ⌜ r ≡ allBelow 16 (λ q. stateFits (s .states) me q (heldOf (s .held) q)) ⌝ }
+{
+    if without_head(s.states, me as u8) == 0 {
+        return true;
+    }
+    let held = s.held;
+    all_held(s.states, me, held)
+}
 
 // Whether the session fits the record, which is whole.
 fn fits(s: Session, rec: &[u64]) -> bool
@@ -20,10 +37,9 @@ fn fits(s: Session, rec: &[u64]) -> bool
     if s.stage == NONE {
         return true;
     }
-    let held = s.held;
     view_fits(s.view, s.members, rec)
         & heard_fits(s.members, s.states, s.attempts, rec)
-        & all_held(s.states, own(rec), held)
+        & held_fits(s, own(rec))
         & stage_fits(s.stage, s.members, s.states, s.attempts, rec)
 }
 

@@ -1,7 +1,7 @@
 -- A session that fits a record, part by part and both ways: each test as the fact that it says.
 use mathlib.Core.Bool.{true, not, _&&_, _||_}
 use mathlib.Core.Logic.{⊎-elim}
-use mathlib.Core.Path.{_≡_, ap}
+use mathlib.Core.Path.{_≡_, sym, ap, _∙_}
 use mathlib.Core.List.{List}
 use Prim.Native.Nat.{ℕ, _≤_, _<_}
 use native.Mathlib.Omega.{arith}
@@ -11,17 +11,31 @@ use borrow.Author.Tests.{eq-eqb, ne-eqb, eqb-true, eqb-false, leb-true, leb-fals
 use Rattle.loops.specs.Below.{allBelow}
 use Rattle.loops.proofs.Laws.Truth.{unless, or-unless, or-none, and-left, and-right, and-both, or-left, or-right, passes-or-fails, not-true, not-false}
 use Rattle.loops.proofs.Laws.Tests.{all-at, all-of}
-use Rattle.group.specs.Heads.{has, within}
+use Rattle.group.specs.Heads.{has, within, less, only}
+use Rattle.group.proofs.Laws.Heads.{has-none, has-only, has-less, only-lt}
 use Rattle.record.specs.Layout.{own, entered, primary}
 use Rattle.record.specs.Whole.{whole}
 use Rattle.record.proofs.Laws.Whole.{whole-length}
 use Rattle.state.specs.Rules.{keepsRules}
 use Rattle.state.specs.declared.State.{State}
+use Rattle.state.specs.declared.Held.{Held}
 use Rattle.plan.specs.Members.{heldOf}
 use Rattle.plan.specs.Form.{viewSession}
 use Rattle.head.specs.declared.session.Session.{Session}
 use Rattle.fitting.specs.Fits.{viewFits, heardFits, stateFits, placed, stageFits}
 use Rattle.head.specs.Fits.{heldFits, fits, usable}
+
+-- where nobody but own head was heard, no state is held
+pub own-alone-fits : (states me : ℕ) (held : Held) → me < 16 → less states (only me) ≡ 0 → allBelow 16 (λ q. stateFits states me q (heldOf held q)) ≡ true
+unfolding stateFits
+own-alone-fits states me held l e =
+    all-of 16 _
+    (λ q h.
+    or-left _ _
+    (or-unless (not (has states q)) (eqb q me)
+    (λ f.
+    let others = sym (has-less states (only me) q (only-lt me l) h) ∙ ap (λ (s : ℕ). has s q) e ∙ has-none q in
+    eq-eqb q me (sym (eqb-true me q (sym (has-only me q) ∙ not-false _ (rw (not-false (has states q) f) at others)))))))
 
 pub usable-whole : (s : Session) (r : List ℕ) → usable s r ≡ true → whole r ≡ true
 unfolding usable

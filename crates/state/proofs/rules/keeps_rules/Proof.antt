@@ -10,12 +10,12 @@ returns : tie.Need-returns
 unfolding keepsRules
 returns c = simp (lt-leb (c .before .before .args .st .count) 16 (omega arith))
 
-keeps-all-requires : tie.Need-keeps-all-requires
-keeps-all-requires c κs = search needs
+keeps-held-requires : tie.Need-keeps-held-requires
+keeps-held-requires c κs = search needs
 
 returns-2 : tie.Need-returns-2
 unfolding keepsRules
-returns-2 c = simp (le-leb (c .before .before .before .args .st .count) 16 (omega arith), c .keeps-all .ensures)
+returns-2 c = simp (le-leb (c .before .before .before .args .st .count) 16 (omega arith), c .keeps-held .ensures)
 
 pub keeps-rules-spec : {M : Type 1} → statement M
-keeps-rules-spec = tie.close (tie.spec returns keeps-all-requires returns-2)
+keeps-rules-spec = tie.close (tie.spec returns keeps-held-requires returns-2)
