@@ -192,6 +192,11 @@ filled-fewer old buf w r f more = subst (λ (x : World). x .turns < w .turns) (s
     go true = more
     go false = omega arith
 
+-- a write that was taken changes nothing
+pub taken-same : (w : World) (all : Bool) → all ≡ true → w ≡ afterWrite w all
+unfolding afterWrite
+taken-same w all e = rw e
+
 -- what a write leaves, whatever it answered
 pub record Kept (w r : World) : Type 0 where
   pub views : r .views ≡ w .views

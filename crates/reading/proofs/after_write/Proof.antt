@@ -1,11 +1,11 @@
 -- By the test.
 use Rattle.reading.specs.Reading.{afterWrite}
+use Rattle.reading.proofs.Laws.{taken-same}
 use Rattle.reading.proofs.after_write.Statement.{statement}
 use Rattle.reading.proofs.after_write.Tie as tie
 
 returns : tie.Need-returns
-unfolding afterWrite
-returns c = rw (c .if1 .taken)
+returns c = taken-same (c .before .args .w) (c .before .args .all) (c .if1 .taken)
 
 returns-2 : tie.Need-returns-2
 unfolding afterWrite
