@@ -10,6 +10,7 @@ use Rattle.asking.specs.declared.World.{World}
 use Rattle.asking.specs.Asking.{left}
 use Rattle.worlds.specs.Desk.{Ready, SamePart}
 use Rattle.reading.specs.Reading.{firstWorld, Between, Filled, Later}
+use Rattle.reading.proofs.Laws.{Lines, filled-lines, filled-fewer, Kept, later-kept}
 
 pub record Calm (ts : List Seat) (vs fs bs os : List ℕ) (z : World) : Type 0 where
   pub t-is : length ts ≡ 16
@@ -47,35 +48,40 @@ unfolding left
 left-all bs r e = let f : r .stop - 0 ≡ r .stop = omega arith in rw (e, f)
 
 pub ready-now : (ts : List Seat) (vs fs bs os bs' : List ℕ) (z r : World) → Calm ts vs fs bs os z → length bs' ≡ length bs → Filled bs bs' z r → Ready ts vs fs bs' os r
-ready-now ts vs fs bs os bs' z r c l f = record {
-  heads = c .t-is;
-  views-room = c .v-is;
-  views-in = omega (arith, c .views-in, f .same .views);
-  formed-room = c .f-is;
-  formed-in = omega (arith, c .formed-in, f .same .formed);
-  starting = omega (arith, c .starting, f .same .starting);
-  within = omega (arith, f .stop, f .end, l, c .b-is);
-  ends = ap (begun []) (left-all bs' r (f .at)) ∙ f .ends;
-  room = omega (arith, f .put, f .at, f .stop, f .end, c .o-is);
-}
+ready-now ts vs fs bs os bs' z r c l f =
+    let h : Lines bs' z r = filled-lines bs bs' z r f in
+    record {
+      heads = c .t-is;
+      views-room = c .v-is;
+      views-in = omega (arith, c .views-in, h .views);
+      formed-room = c .f-is;
+      formed-in = omega (arith, c .formed-in, h .formed);
+      starting = omega (arith, c .starting, h .starting);
+      within = omega (arith, h .stop, h .end, l, c .b-is);
+      ends = ap (begun []) (left-all bs' r (h .at)) ∙ h .ends;
+      room = omega (arith, h .put, h .at, h .stop, h .end, c .o-is);
+    }
 
 pub put-fits : (ts : List Seat) (vs fs bs os : List ℕ) (z : World) → Ready ts vs fs bs os z → z .put ≤ length os
 put-fits ts vs fs bs os z r = omega (arith, r .room)
 
 -- after the lines of a read are played and what they print is written
 pub calm-after : (ts : List Seat) (vs fs bs os bs₀ bs₁ : List ℕ) (z r y x : World) → length bs ≡ 8192 → length os ≡ 196608 → Filled bs₀ bs₁ z r → SamePart r y → Ready ts vs fs bs os y → Later y x → Calm ts vs fs bs os x
-calm-after ts vs fs bs os bs₀ bs₁ z r y x lb lo f p q l = record {
-  t-is = q .heads;
-  v-is = q .views-room;
-  f-is = q .formed-room;
-  b-is = lb;
-  o-is = lo;
-  views-in = omega (arith, q .views-in, l .same .views);
-  formed-in = omega (arith, q .formed-in, l .same .formed);
-  starting = omega (arith, q .starting, l .same .starting);
-  stop = omega (arith, l .stop, l .end, p .stop, p .end, f .stop);
-  end = omega (arith, l .end, p .end, f .end);
-}
+calm-after ts vs fs bs os bs₀ bs₁ z r y x lb lo f p q l =
+    let h : Lines bs₁ z r = filled-lines bs₀ bs₁ z r f in
+    let k : Kept y x = later-kept y x l in
+    record {
+      t-is = q .heads;
+      v-is = q .views-room;
+      f-is = q .formed-room;
+      b-is = lb;
+      o-is = lo;
+      views-in = omega (arith, q .views-in, k .views);
+      formed-in = omega (arith, q .formed-in, k .formed);
+      starting = omega (arith, q .starting, k .starting);
+      stop = omega (arith, k .stop, k .end, p .stop, p .end, h .stop);
+      end = omega (arith, k .end, p .end, h .end);
+    }
 
-pub fewer-after : (bs bs' : List ℕ) (z r y x : World) → Filled bs bs' z r → SamePart r y → Later y x → x .turns < z .turns
-fewer-after bs bs' z r y x f p l = omega (arith, f .fewer, p .turns, l .fewer)
+pub fewer-after : (bs bs' : List ℕ) (z r y x : World) → 0 < z .turns → Filled bs bs' z r → SamePart r y → Later y x → x .turns < z .turns
+fewer-after bs bs' z r y x more f p l = omega (arith, filled-fewer bs bs' z r f more, p .turns, later-kept y x l .fewer)

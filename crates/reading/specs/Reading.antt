@@ -1,10 +1,13 @@
 -- The program between two reads. What is held of a line that was begun are its first 15 bytes: a line that long is no event, whatever follows.
-use mathlib.Core.Bool.{false, cond}
+use mathlib.Core.Bool.{Bool, false, cond}
 use mathlib.Core.Path.{_≡_}
 use mathlib.Core.List.{List, []}
-use Prim.Native.Nat.{ℕ, _-_, _≤_, _<_}
-use lib.Dec.{ltb}
+use Prim.Native.Nat.{ℕ, _+_, _-_, _≤_}
+use lib.Dec.{ltb, eqb}
+use lib.IntN.{ℤ}
 use lib.ListN.{length, take, drop}
+use Rattle.libc.specs.Io.{Moved}
+use Rattle.io.specs.Counts.{clamped}
 use Rattle.lines.specs.Walk.{begun}
 use Rattle.asking.specs.declared.World.{World}
 
@@ -22,15 +25,6 @@ pub record Between (buf : List ℕ) (w : World) : Type 0 where
   pub stop : w .stop ≤ w .end
   pub end : w .end ≤ 8192
 
--- a read leaves what is known of the heads, the views and the sessions
-pub record Same (w r : World) : Type 0 where
-  pub views : r .views ≡ w .views
-  pub formed : r .formed ≡ w .formed
-  pub starting : r .starting ≡ w .starting
-  pub grouped : r .grouped ≡ w .grouped
-  pub core : r .core ≡ w .core
-  pub least : r .least ≡ w .least
-
 -- how many bytes of a line that was begun are held, and which
 unfoldable pub heldCount : World → ℕ
 heldCount w = cond (ltb (w .end - w .stop) 15) (w .end - w .stop) 15
@@ -38,23 +32,34 @@ heldCount w = cond (ltb (w .end - w .stop) 15) (w .end - w .stop) 15
 unfoldable pub heldIn : List ℕ → World → List ℕ
 heldIn old w = take 15 (take (w .end - w .stop) (drop (w .stop) old))
 
--- after a read: what is held stands first, the lines up to `stop` all end, nothing is printed of them yet, and there is a read less to make
+-- how many bytes a read brought, by its answer: none at the end of the input, and none where it failed
+unfoldable pub brought : World → ℤ → ℕ
+brought w got = clamped got (8192 - heldCount w)
+
+-- where the last whole line of s ends
+unfoldable pub linesEnd : List ℕ → ℕ
+linesEnd s = length s - length (begun [] s)
+
+-- after a read that brought n bytes behind those held. Where it brought none, the bytes held are all that is left of the input and no read is left to make;
+-- else all whole lines are handed on, and there is exactly one read less to make
+unfoldable pub afterBytes : List ℕ → World → ℕ → World
+afterBytes buf w n = cond (eqb n 0) (atRead w 0 (heldCount w) 0) (atRead w (linesEnd (take (heldCount w + n) buf)) (heldCount w + n) (w .turns - 1))
+
+unfoldable pub afterRead : List ℕ → World → ℤ → World
+afterRead buf w got = afterBytes buf w (brought w got)
+
+-- a read: what is held stands first, and the world is the one that belongs to the read's answer, which may be any that a read into this room can give
 pub record Filled (old buf : List ℕ) (w r : World) : Type 0 where
   pub kept : take (heldCount w) buf ≡ heldIn old w
-  pub more : heldCount w ≤ r .end
-  pub same : Same w r
-  pub at : r .at ≡ 0
-  pub put : r .put ≡ 0
-  pub stop : r .stop ≤ r .end
-  pub end : r .end ≤ 8192
-  pub ends : begun [] (take (r .stop) buf) ≡ []
-  -- what stands behind them is the line that is begun; at the end of the input all that was held is
-  pub rest : 0 < r .turns → begun [] (take (r .end) buf) ≡ drop (r .stop) (take (r .end) buf)
-  pub fewer : r .turns < w .turns
+  pub answer : ℤ
+  pub can : Moved (8192 - heldCount w) answer
+  pub is : r ≡ afterRead buf w answer
 
--- after a write: the same, or no read is left to make
+-- after a write: the same, or no read is left to make where not all was written
+unfoldable pub afterWrite : World → Bool → World
+afterWrite w all = cond all w (record { at = w .at; stop = w .stop; put = w .put; views = w .views; formed = w .formed; starting = w .starting; grouped = w .grouped; core = w .core; least = w .least; end = w .end; turns = 0 })
+
+-- a write: the world is the one that belongs to the write's answer
 pub record Later (w r : World) : Type 0 where
-  pub same : Same w r
-  pub stop : r .stop ≡ w .stop
-  pub end : r .end ≡ w .end
-  pub fewer : r .turns ≤ w .turns
+  pub answer : Bool
+  pub is : r ≡ afterWrite w answer

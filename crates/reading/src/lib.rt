@@ -4,11 +4,9 @@ use libc::STDIN_FILENO;
 use libc::STDOUT_FILENO;
 use stream::keep;
 ghost use mathlib.Core.Path.{_≡_};
-ghost use mathlib.Core.List.{[]};
 ghost use Prim.Native.Nat.{_+_, _≤_, _<_};
-ghost use lib.ListN.{length, take, drop};
-ghost use Rattle.lines.specs.Walk.{begun};
-ghost use Rattle.reading.specs.Reading.{firstWorld, atRead, heldCount, Between, Filled, Later};
+ghost use lib.ListN.{length, take};
+ghost use Rattle.reading.specs.Reading.{firstWorld, atRead, heldCount, Between, linesEnd, afterRead, Filled, afterWrite, Later};
 
 // Nothing is read yet. A proved loop has to end, and nothing says that the input does: the loop counts its reads down from a number that no run uses up.
 pub fn first_world() -> World
@@ -32,7 +30,7 @@ pub fn first_world() -> World
 // The end of the last whole line among the first n bytes.
 fn last_end(buf: &[u8], n: usize) -> usize
     requires { ⌜ n ≤ length (now buf) ⌝ }
-    ensures { λ r. ⌜ (r ≤ n) × (begun [] (take r (now (buf .entry))) ≡ []) × (begun [] (take n (now (buf .entry))) ≡ drop r (take n (now (buf .entry)))) ⌝ }
+    ensures { λ r. ⌜ r ≡ linesEnd (take n (now (buf .entry))) ⌝ }
 {
     let mut i = n;
     while 0 < i {
@@ -69,6 +67,21 @@ fn at_read(w: World, stop: usize, end: usize, turns: u64) -> World
     r
 }
 
+// The world after a read that answered got. A read that brings bytes never ends the run.
+fn after_read(buf: &[u8], w: World, got: isize) -> World
+    requires { ⌜ Between (now buf) w × (0 < w .turns) ⌝ }
+    ensures { λ r. ⌜ r ≡ afterRead (now (buf .entry)) w got ⌝ }
+{
+    let held = held_of(w);
+    let n = io::count(got, &buf[held..]);
+    if n == 0 {
+        return at_read(w, 0, held, 0);
+    }
+    let end = held + n;
+    let stop = last_end(buf, end);
+    at_read(w, stop, end, w.turns - 1)
+}
+
 // One read, after what is held of a line that was begun.
 pub fn filled(buf: &mut [u8], w: World) -> World
     requires { ⌜ Between (now buf) w × (0 < w .turns) ⌝ }
@@ -77,13 +90,19 @@ pub fn filled(buf: &mut [u8], w: World) -> World
     let held = held_of(w);
     keep(buf, w.stop, held);
     let got = libc::read(STDIN_FILENO, &mut buf[held..]);
-    if got <= 0 {
-        return at_read(w, 0, held, 0);
+    after_read(buf, w, got)
+}
+
+// The world after a write that answered whether all was written. A run whose output is not taken ends.
+fn after_write(w: World, all: bool) -> World
+    ensures { λ r. ⌜ r ≡ afterWrite w all ⌝ }
+{
+    if all {
+        return w;
     }
-    let n = io::count(got, &buf[held..]);
-    let end = held + n;
-    let stop = last_end(buf, end);
-    at_read(w, stop, end, w.turns - 1)
+    let mut r = w;
+    r.turns = 0;
+    r
 }
 
 // Writes what the lines of a read print.
@@ -92,10 +111,6 @@ pub fn sent(out: &[u8], w: World) -> World
     ensures { λ r. ⌜ Later w r ⌝ }
 {
     let put = w.put;
-    if io::write_all(STDOUT_FILENO, &out[..put]) {
-        return w;
-    }
-    let mut r = w;
-    r.turns = 0;
-    r
+    let all = io::write_all(STDOUT_FILENO, &out[..put]);
+    after_write(w, all)
 }

@@ -425,7 +425,7 @@ module _ {M : Type 1} (𝓤 : URA M) (H : Heap 𝓤) (A : Atoms 𝓤) (W : Given
         move ! (2 ∷ []) $ peeks ! Rw (Is Rw) (shows 𝓤 H A Rw) r₃ (v₃ ∷ []) (λ i₃. land-last ! (from ! (stop !)) (store ! 59 refl (world-typed 𝓤 H A W r₃ v₃ i₃)) $
         rewrite ! 59 (λ (u : Val). ‵ (fat fullShare world-mir l₆ 0 u)) (ap only (world-tells r₃ (v₃ ∷ []) i₃)) refl $
         forget ! 19 refl $ forget ! 21 refl $ forget ! 23 refl $ forget ! 25 refl $ forget ! 27 refl $ forget ! 29 refl $ forget ! 31 refl $ forget ! 33 refl $ forget ! 35 refl $ forget ! 37 refl $ forget ! 39 refl $ forget ! 41 refl $ forget ! 43 refl $ forget ! 45 refl $ forget ! 47 refl $
-        keep ! (7 ∷ 6 ∷ 5 ∷ 4 ∷ 1 ∷ 11 ∷ 12 ∷ 13 ∷ 14 ∷ 15 ∷ 16 ∷ 17 ∷ 18 ∷ 19 ∷ 20 ∷ 21 ∷ 22 ∷ 23 ∷ 24 ∷ 25 ∷ 26 ∷ 27 ∷ 28 ∷ 29 ∷ 30 ∷ 31 ∷ 32 ∷ 33 ∷ 34 ∷ 35 ∷ 36 ∷ 37 ∷ 38 ∷ 39 ∷ 40 ∷ 41 ∷ 42 ∷ 43 ∷ 44 ∷ 45 ∷ 46 ∷ 47 ∷ 48 ∷ 49 ∷ 50 ∷ 51 ∷ 52 ∷ 53 ∷ 54 ∷ 55 ∷ 56 ∷ 57 ∷ 58 ∷ 59 ∷ 60 ∷ 61 ∷ 62 ∷ 63 ∷ 64 ∷ 65 ∷ 66 ∷ 67 ∷ []) $ again ! Nearer At i (record { ts = ws .0; vs = ws .1 .0; fs = ws .1 .1 .0; bs = cs .0; os = ws .1 .1 .1 .1 .0; z = r₃; calm = calm-after (ws .0) (ws .1 .0) (ws .1 .1 .0) (cs .0) (ws .1 .1 .1 .1 .0) (i .bs) (cs .0) (i .z) r₁ r₂ r₃ (lb ∙ i .calm .b-is) (lo ∙ i .calm .o-is) e₁ (e₂ .1 .part) (e₂ .0) e₃; is = subst (λ (u : Val). Is Rw r₃ (u ∷ [])) (ap only (world-tells r₃ (v₃ ∷ []) i₃)) i₃ }) (fewer-after (i .bs) (cs .0) (i .z) r₁ r₂ r₃ e₁ (e₂ .1 .part) e₃)))))))))))))))))))))))))))))))))))
+        keep ! (7 ∷ 6 ∷ 5 ∷ 4 ∷ 1 ∷ 11 ∷ 12 ∷ 13 ∷ 14 ∷ 15 ∷ 16 ∷ 17 ∷ 18 ∷ 19 ∷ 20 ∷ 21 ∷ 22 ∷ 23 ∷ 24 ∷ 25 ∷ 26 ∷ 27 ∷ 28 ∷ 29 ∷ 30 ∷ 31 ∷ 32 ∷ 33 ∷ 34 ∷ 35 ∷ 36 ∷ 37 ∷ 38 ∷ 39 ∷ 40 ∷ 41 ∷ 42 ∷ 43 ∷ 44 ∷ 45 ∷ 46 ∷ 47 ∷ 48 ∷ 49 ∷ 50 ∷ 51 ∷ 52 ∷ 53 ∷ 54 ∷ 55 ∷ 56 ∷ 57 ∷ 58 ∷ 59 ∷ 60 ∷ 61 ∷ 62 ∷ 63 ∷ 64 ∷ 65 ∷ 66 ∷ 67 ∷ []) $ again ! Nearer At i (record { ts = ws .0; vs = ws .1 .0; fs = ws .1 .1 .0; bs = cs .0; os = ws .1 .1 .1 .1 .0; z = r₃; calm = calm-after (ws .0) (ws .1 .0) (ws .1 .1 .0) (cs .0) (ws .1 .1 .1 .1 .0) (i .bs) (cs .0) (i .z) r₁ r₂ r₃ (lb ∙ i .calm .b-is) (lo ∙ i .calm .o-is) e₁ (e₂ .1 .part) (e₂ .0) e₃; is = subst (λ (u : Val). Is Rw r₃ (u ∷ [])) (ap only (world-tells r₃ (v₃ ∷ []) i₃)) i₃ }) (fewer-after (i .bs) (cs .0) (i .z) r₁ r₂ r₃ (ltb→lt 0 (i .z .turns) less) e₁ (e₂ .1 .part) e₃)))))))))))))))))))))))))))))))))))
         (λ over. exec ! C Λ En code′.t-13 (atRet En Post) $
         assigns ! (addr ! (from ! (stop !))) (from ! (stop !)) (init ! 11 refl (tt, tt)) $
         assigns ! (agg ! (and-then ! (load ! (from ! (stop !)) (look ! 11 refl)) (and-then ! (lit ! tt) (no-more !)))) (from ! (stop !)) (init ! 9 refl (tt, (tt, (record { fits = fits-1001 }, tt)))) $

@@ -1,10 +1,9 @@
 -- The search goes down from the end: where it stops the byte before is a newline, or there is none.
-use mathlib.Core.List.{[]}
 use native.Mathlib.Omega.{arith}
 use Prim.Native.Nat.{_≤_}
 use lib.Seq.{slice}
 use Rattle.stream.proofs.Laws.Parts.{NoEnd}
-use Rattle.reading.proofs.Laws.{ends-there, ends-none, none-from-end, none-before, rest-begun, rest-all}
+use Rattle.reading.proofs.Laws.{ends-there, none-from-end, none-before, rest-begun, rest-all, end-found}
 use Rattle.reading.proofs.last_end.Statement.{statement}
 use Rattle.reading.proofs.last_end.Tie as tie
 
@@ -28,7 +27,7 @@ returns c =
     let s = c .before .before .before .before in
     let l = c .before .before .before .loop in
     let e = ends-there (s .args .buf .now) (l .i) (omega arith) (omega arith) (c .if1 .taken) in
-    (omega arith, e, rest-begun (s .args .buf .now) (l .i) (s .args .n) (omega arith) e (l .inv .1))
+    end-found (s .args .buf .now) (l .i) (s .args .n) (omega arith) (omega arith) (rest-begun (s .args .buf .now) (l .i) (s .args .n) (omega arith) e (l .inv .1))
 
 sub-i : tie.Need-sub-i Inv-loop μ-loop
 sub-i c = omega arith
@@ -46,7 +45,7 @@ returns-2 : tie.Need-returns-2 Inv-loop μ-loop
 returns-2 c =
     let s = c .before .before in
     let l = c .before .loop in
-    (omega arith, ends-none [], rest-all (s .args .buf .now) (l .i) (s .args .n) (omega arith) (l .inv .1))
+    end-found (s .args .buf .now) 0 (s .args .n) (omega arith) (omega arith) (rest-all (s .args .buf .now) (l .i) (s .args .n) (omega arith) (l .inv .1))
 
 pub last-end-spec : {M : Type 1} → statement M
 last-end-spec =
