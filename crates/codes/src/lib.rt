@@ -6,7 +6,7 @@ ghost use mathlib.Core.Path.{_≡_};
 ghost use Rattle.group.specs.Answers.{refusalNumber, verdict, said};
 ghost use Rattle.codes.specs.Codes.{code as codeOf, verdictCode, lengthOf};
 
-fn refusal_code(r: Refusal) -> u8
+pub fn refusal_code(r: Refusal) -> u8
     ensures { λ n. ⌜ n ≡ refusalNumber r ⌝ }
 {
     match r {

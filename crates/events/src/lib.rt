@@ -6,7 +6,7 @@ use hex::digits;
 use start::start;
 ghost use mathlib.Core.Path.{_≡_};
 ghost use Prim.Native.Nat.{_+_, _*_, _<_};
-ghost use lib.ListN.{length, getD, drop};
+ghost use lib.ListN.{length, drop};
 ghost use Rattle.lines.specs.Hex.{unhex};
 ghost use Rattle.lines.specs.Frame.{two, four};
 ghost use Rattle.events.specs.Events.{starts, groupEvent, viewEvent, enterEvent, stateEvent, decideEvent, attemptEvent, formEvent, cutEvent, recoverEvent, eventOf};

@@ -1,5 +1,5 @@
 -- Each call as a function of its inputs: answer, record words, session and output, refusals too ("Record, session and output buffer keep their contents").
-use mathlib.Core.Bool.{Bool, cond}
+use mathlib.Core.Bool.{cond}
 use mathlib.Core.List.{List, [], _∷_, _++_}
 use Prim.Native.Nat.{ℕ}
 use lib.Dec.{eqb}

@@ -7,4 +7,5 @@ pub mod HexBack
 pub mod FrameBack
 pub mod Trip
 pub mod Walk
+pub mod Alike
 pub mod Theorems

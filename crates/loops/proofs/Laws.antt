@@ -4,7 +4,7 @@ pub mod Order
 pub mod Fold
 pub mod Count
 pub mod Tests
-pub mod Best
+pub mod Last
 pub mod First
 pub mod Lists
 pub mod Stores

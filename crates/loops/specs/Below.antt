@@ -35,10 +35,6 @@ lastBelow n p = foldBelow n (λ i best. cond (p i) i best) 0
 unfoldable pub firstBelow : ℕ → (ℕ → Bool) → ℕ
 firstBelow n p = foldBelow n (λ i first. cond (ltb first i) first (cond (p i) i (suc i))) 0
 
--- the one of the greatest rank, the lowest on a tie, and 0 if all ranks are 0
-unfoldable pub bestBelow : ℕ → (ℕ → ℕ) → ℕ
-bestBelow n rank = foldBelow n (λ i best. cond (ltb (rank best) (rank i)) i best) 0
-
 -- a step that stores `f i` at place `base + i` where the test passes
 unfoldable pub storeWhen {ℓ} : {A : Type ℓ} → ℕ → (ℕ → Bool) → (ℕ → A) → ℕ → List A → List A
 storeWhen base p f i l = cond (p i) (set l (base + i) (f i)) l

@@ -2,7 +2,7 @@
 use mathlib.Core.Path.{_≡_, refl}
 use mathlib.Core.List.{List, [], _∷_}
 use Prim.Native.Nat.{ℕ}
-use Rattle.loops.specs.Below.{foldBelow, countBelow, allBelow, anyBelow, lastBelow, firstBelow, bestBelow, storeWhen, collect, table, every}
+use Rattle.loops.specs.Below.{foldBelow, countBelow, allBelow, anyBelow, lastBelow, firstBelow, storeWhen, collect, table, every}
 use Rattle.group.specs.Heads.{has, size, empty, common, either, shared, less, only, within, highest}
 use Rattle.group.specs.Words.{rank, highestOf, sound, sessionWord, primaryOk, formedOk}
 use Rattle.group.specs.Quorum.{enough, majority, tied, blocking, passes, isGroup}
@@ -48,5 +48,5 @@ pub text : List ℕ
 text = 49 ∷ 48 ∷ 48 ∷ 48 ∷ 48 ∷ 51 ∷ 48 ∷ 49 ∷ 10 ∷ 49 ∷ 49 ∷ 48 ∷ 48 ∷ 48 ∷ 48 ∷ 48 ∷ 48 ∷ 48 ∷ 49 ∷ 48 ∷ 48 ∷ 48 ∷ 51 ∷ 10 ∷ 49 ∷ 50 ∷ 48 ∷ 48 ∷ 48 ∷ 48 ∷ 48 ∷ 48 ∷ 48 ∷ 48 ∷ 48 ∷ 49 ∷ 10 ∷ 49 ∷ 50 ∷ 48 ∷ 49 ∷ 48 ∷ 48 ∷ 48 ∷ 48 ∷ 48 ∷ 48 ∷ 48 ∷ 49 ∷ 10 ∷ 49 ∷ 51 ∷ 48 ∷ 48 ∷ 48 ∷ 49 ∷ 48 ∷ 48 ∷ 10 ∷ 49 ∷ 51 ∷ 48 ∷ 49 ∷ 48 ∷ 48 ∷ 48 ∷ 48 ∷ 10 ∷ 49 ∷ 52 ∷ 48 ∷ 48 ∷ 10 ∷ 49 ∷ 52 ∷ 48 ∷ 49 ∷ 10 ∷ 49 ∷ 53 ∷ 48 ∷ 48 ∷ 48 ∷ 49 ∷ 48 ∷ 48 ∷ 10 ∷ 49 ∷ 53 ∷ 48 ∷ 49 ∷ 48 ∷ 48 ∷ 48 ∷ 48 ∷ 10 ∷ 49 ∷ 55 ∷ 48 ∷ 48 ∷ 48 ∷ 48 ∷ 48 ∷ 49 ∷ 10 ∷ 49 ∷ 54 ∷ 48 ∷ 48 ∷ 10 ∷ 49 ∷ 54 ∷ 48 ∷ 49 ∷ 10 ∷ []
 
 pub two-form : benchAfter text .formed ≡ 0x3 ∷ 0x10003 ∷ []
-unfolding text foldBelow countBelow allBelow anyBelow lastBelow firstBelow bestBelow storeWhen collect table every has size empty common either shared less only within highest rank highestOf sound sessionWord primaryOk formedOk enough majority tied blocking passes isGroup groupWord freshWord freshRecord stored putTo run apply storeIf whereChanged diffIf stepBy exec after noState nothingHeld padded rule4 rule5 prior placeOk rule6 rule7 broken keepsRules isDigit digit nib hexOf unhex lineEnd lineOf two four six words kindOf viewOf senderOf countOf stateOf rule1 stateFits rule2 rule3 laterBroken firstBroken breaks carried answer judged readWhole bytes2 bytes4 bytes6 flat headBytes fieldBytes placeBytes attemptFrame stateFrame lineFor attemptLine stateLine settings core least own entered number primary formedFor placeAt marksAt storeEntered storeNumber storePrimary storeFormed storePlace storeMarks takenLeast canStart startSpec entryChange markChange clearChange past formedStores adoptChange attemptChange formChange usedPlaces nearer nextAbove rising tells other formedWith toMark adding marked markStep offered bestOffer adopts adoptStep allMarked lists behind denies toClear clearStep numberOf primaryOf highestNumber highestPrimary passesFor weighed ownWeighed stateWeighed listedWeighed quorate lowestFree decision attempts attemptSession attemptStep learning afterC decideProgram decideAnswer viewSession formStep noSession opened withState withAttempt atStage viewFits heardFits stateFitsFits heldFits placed stageFits fits usable enterRefusal stateRefusal hearStateRefusal attemptRefusal hearAttemptRefusal decideRefusal formRefusal writeStateRefusal writeAttemptRefusal under stores entryStep enterSpec hearStateSpec hearAttemptSpec decidedStage decideSpec formSpec writes writeStateSpec writeAttemptSpec linesOf begun wholeLines lastLine named byteAt starts groupEvent viewEvent enterEvent decideEvent formEvent ofKind stateEvent attemptEvent cutEvent eventOf blank noLine emptySeat storesFor storesOf stateSent attemptSent pushed keptAt isLine doesNothing startsSeat afterCall entry enters decisionOf decides newly formation forms playedBy viewIndex announced membersOf insert noted startLast inGroup groupWhat viewWhat enterWhat acts obeyed happens eventIn taken played newBench listened hearsState hearsAttempt arms whole wordsWhole groupWhole limitsWhole primaryWhole formedWhole placeWhole apartWhole apart topWhole marksWhole marksOk usedOk script upTo
+unfolding text foldBelow countBelow allBelow anyBelow lastBelow firstBelow storeWhen collect table every has size empty common either shared less only within highest rank highestOf sound sessionWord primaryOk formedOk enough majority tied blocking passes isGroup groupWord freshWord freshRecord stored putTo run apply storeIf whereChanged diffIf stepBy exec after noState nothingHeld padded rule4 rule5 prior placeOk rule6 rule7 broken keepsRules isDigit digit nib hexOf unhex lineEnd lineOf two four six words kindOf viewOf senderOf countOf stateOf rule1 stateFits rule2 rule3 laterBroken firstBroken breaks carried answer judged readWhole bytes2 bytes4 bytes6 flat headBytes fieldBytes placeBytes attemptFrame stateFrame lineFor attemptLine stateLine settings core least own entered number primary formedFor placeAt marksAt storeEntered storeNumber storePrimary storeFormed storePlace storeMarks takenLeast canStart startSpec entryChange markChange clearChange past formedStores adoptChange attemptChange formChange usedPlaces nearer nextAbove rising tells other formedWith toMark adding marked markStep offered bestOffer adopts adoptStep allMarked lists behind denies toClear clearStep numberOf primaryOf highestNumber highestPrimary passesFor weighed ownWeighed stateWeighed listedWeighed quorate lowestFree decision attempts attemptSession attemptStep learning afterC decideProgram decideAnswer viewSession formStep noSession opened withState withAttempt atStage viewFits heardFits stateFitsFits heldFits placed stageFits fits usable enterRefusal stateRefusal hearStateRefusal attemptRefusal hearAttemptRefusal decideRefusal formRefusal writeStateRefusal writeAttemptRefusal under stores entryStep enterSpec hearStateSpec hearAttemptSpec decidedStage decideSpec formSpec writes writeStateSpec writeAttemptSpec linesOf begun wholeLines lastLine named byteAt starts groupEvent viewEvent enterEvent decideEvent formEvent ofKind stateEvent attemptEvent cutEvent eventOf blank noLine emptySeat storesFor storesOf stateSent attemptSent pushed keptAt isLine doesNothing startsSeat afterCall entry enters decisionOf decides newly formation forms playedBy viewIndex announced membersOf insert noted startLast inGroup groupWhat viewWhat enterWhat acts obeyed happens eventIn taken played newBench listened hearsState hearsAttempt arms whole wordsWhole groupWhole limitsWhole primaryWhole formedWhole placeWhole apartWhole apart topWhole marksWhole marksOk usedOk script upTo
 two-form = refl

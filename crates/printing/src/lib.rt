@@ -1,7 +1,7 @@
 // What the bench prints: for each event its answer, and at the end the formed sessions.
+use codes::refusal_code;
 use deeds::Reply;
 use group::Answer;
-use group::Refusal;
 use hex::line_end;
 use shown::put_field;
 use shown::put_heads;
@@ -10,7 +10,7 @@ ghost use mathlib.Core.Path.{_≡_};
 ghost use mathlib.Core.List.{_++_};
 ghost use Prim.Native.Nat.{_+_, _*_, _≤_, _<_};
 ghost use lib.ListN.{length, take, drop};
-ghost use Rattle.group.specs.Answers.{said, refusalNumber};
+ghost use Rattle.group.specs.Answers.{said};
 ghost use Rattle.lines.specs.Hex.{lineEnd};
 ghost use Rattle.lines.specs.Walk.{firstOf};
 ghost use Rattle.deeds.specs.Told.{told};
@@ -37,26 +37,6 @@ fn put_refused(out: &mut [u8], at: usize, n: u8) -> usize
     let a = put(out, at, 82);
     let b = put_field(out, a, n as u64);
     put(out, b, 10)
-}
-
-fn number_of(why: Refusal) -> u8
-    ensures { λ r. ⌜ r ≡ refusalNumber why ⌝ }
-{
-    match why {
-        Refusal::Group => 1,
-        Refusal::Record => 2,
-        Refusal::Line => 3,
-        Refusal::Stranger => 4,
-        Refusal::OldView => 5,
-        Refusal::NoSession => 6,
-        Refusal::OtherView => 7,
-        Refusal::Heard => 8,
-        Refusal::Missing => 9,
-        Refusal::Decided => 10,
-        Refusal::Undecided => 11,
-        Refusal::Closed => 12,
-        Refusal::Short => 13,
-    }
 }
 
 // Where an answer's word begins in the words of all answers; a refusal has none.
@@ -94,7 +74,7 @@ fn put_answer(out: &mut [u8], at: usize, answer: Answer) -> usize
     ensures { λ r. ⌜ (r ≤ at + 24) × (take r (now (out .exit)) ≡ take at (now (out .entry)) ++ saidText (said answer)) ⌝ }
 {
     match answer {
-        Answer::Refused(why) => put_refused(out, at, number_of(why)),
+        Answer::Refused(why) => put_refused(out, at, refusal_code(why)),
         _ => {
             let words =
                 b"started\nrecovered\nentered\nheard\nattempted\nno quorum\nnumbers run out\nno place\nformed\nwritten\ncut\n";

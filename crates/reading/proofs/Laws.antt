@@ -14,7 +14,7 @@ use Rattle.loops.proofs.Laws.Order.{lt-or-ge}
 use Rattle.lines.specs.Hex.{lineEnd}
 use Rattle.lines.specs.Walk.{begun}
 use Rattle.lines.proofs.Laws.Walk.{begun-append, none-whole}
-use Rattle.stream.proofs.Laws.Parts.{NoEnd, none-nil}
+use Rattle.lines.proofs.Laws.Alike.{NoEnd, none-nil}
 use mir.Syntax.{w64}
 use mir.Val.{SFits}
 use Rattle.libc.specs.Io.{Moved}

@@ -8,7 +8,7 @@ use lib.Dec.{eqb, ltb}
 use lib.ListN.{length, replicate}
 use borrow.Author.Tests.{eqb-true, ltb-true}
 use Rattle.loops.proofs.Laws.Truth.{clash, and-left, and-right, or-cases}
-use Rattle.loops.specs.Below.{foldBelow, countBelow, allBelow, anyBelow, lastBelow, firstBelow, bestBelow, storeWhen, collect, table, every}
+use Rattle.loops.specs.Below.{foldBelow, countBelow, allBelow, anyBelow, lastBelow, firstBelow, storeWhen, collect, table, every}
 use Rattle.group.specs.Heads.{has, size, empty, common, either, shared, less, only, within, highest}
 use Rattle.group.specs.Words.{rank, highestOf, sound, sessionWord, primaryOk, formedOk}
 use Rattle.group.specs.Quorum.{enough, majority, tied, blocking, passes, isGroup, quorumTest}
@@ -122,7 +122,7 @@ may S W (call p lost k c) = mayCall W c
 
 -- the world after the moves, and whether a history may make them
 unfoldable pub play : Setting → List Move → World → World
-unfolding starts makes tells-state tells-attempt emptyWorld step inOrder insert greatest raiseStep formedStep mendClearStep wipeStep mendProgram mended mendable recoverSpec foldBelow countBelow allBelow anyBelow lastBelow firstBelow bestBelow storeWhen collect table every has size empty common either shared less only within highest rank highestOf sound sessionWord primaryOk formedOk enough majority tied blocking passes isGroup quorumTest groupWord freshWord freshRecord stored putTo run apply storeIf whereChanged diffIf stepBy exec script after upTo noState nothingHeld padded rule4 rule5 prior placeOk rule6 rule7 broken keepsRules isDigit digit nib hexOf unhex lineEnd lineOf restOf two four six words kindOf viewOf senderOf countOf stateOf rule1 stateFits rule2 rule3 laterBroken firstBroken breaks carried answer judged readLine readWhole bytes2 bytes4 bytes6 flat headBytes fieldBytes placeBytes attemptFrame stateFrame lineFor attemptLine stateLine spell writeAttempt writeState settings core least own entered number primary formedFor placeAt marksAt storeEntered storeNumber storePrimary storeFormed storePlace storeMarks groupWhole limitsWhole primaryWhole formedWhole usedOk placeWhole apart apartWhole topWhole marksOk marksWhole wordsWhole whole takenLeast canStart startSpec entryChange markChange clearChange past formedStores adoptChange attemptChange formChange usedPlaces nearer nextAbove rising tells other formedWith toMark adding marked markStep offered bestOffer adopts adoptStep allMarked lists behind denies toClear clearStep numberOf primaryOf highestNumber highestPrimary passesFor weighed ownWeighed stateWeighed listedWeighed quorate lowestFree decision attempts attemptSession attemptStep learning afterC decideProgram decideAnswer decideChanges viewSession formStep formChanges noSession opened withState withAttempt atStage viewFits heardFits stateFitsFits heldFits placed stageFits fits usable enterRefusal stateRefusal hearStateRefusal attemptRefusal hearAttemptRefusal decideRefusal formRefusal writeStateRefusal writeAttemptRefusal under stores entryStep enterSpec hearStateSpec hearAttemptSpec decidedStage decideSpec formSpec writes writeStateSpec writeAttemptSpec enterChanges decidesChanges formsChanges
+unfolding starts makes tells-state tells-attempt emptyWorld step inOrder insert greatest raiseStep formedStep mendClearStep wipeStep mendProgram mended mendable recoverSpec foldBelow countBelow allBelow anyBelow lastBelow firstBelow storeWhen collect table every has size empty common either shared less only within highest rank highestOf sound sessionWord primaryOk formedOk enough majority tied blocking passes isGroup quorumTest groupWord freshWord freshRecord stored putTo run apply storeIf whereChanged diffIf stepBy exec script after upTo noState nothingHeld padded rule4 rule5 prior placeOk rule6 rule7 broken keepsRules isDigit digit nib hexOf unhex lineEnd lineOf restOf two four six words kindOf viewOf senderOf countOf stateOf rule1 stateFits rule2 rule3 laterBroken firstBroken breaks carried answer judged readLine readWhole bytes2 bytes4 bytes6 flat headBytes fieldBytes placeBytes attemptFrame stateFrame lineFor attemptLine stateLine spell writeAttempt writeState settings core least own entered number primary formedFor placeAt marksAt storeEntered storeNumber storePrimary storeFormed storePlace storeMarks groupWhole limitsWhole primaryWhole formedWhole usedOk placeWhole apart apartWhole topWhole marksOk marksWhole wordsWhole whole takenLeast canStart startSpec entryChange markChange clearChange past formedStores adoptChange attemptChange formChange usedPlaces nearer nextAbove rising tells other formedWith toMark adding marked markStep offered bestOffer adopts adoptStep allMarked lists behind denies toClear clearStep numberOf primaryOf highestNumber highestPrimary passesFor weighed ownWeighed stateWeighed listedWeighed quorate lowestFree decision attempts attemptSession attemptStep learning afterC decideProgram decideAnswer decideChanges viewSession formStep formChanges noSession opened withState withAttempt atStage viewFits heardFits stateFitsFits heldFits placed stageFits fits usable enterRefusal stateRefusal hearStateRefusal attemptRefusal hearAttemptRefusal decideRefusal formRefusal writeStateRefusal writeAttemptRefusal under stores entryStep enterSpec hearStateSpec hearAttemptSpec decidedStage decideSpec formSpec writes writeStateSpec writeAttemptSpec enterChanges decidesChanges formsChanges
 play S [] W = W
 play S (m ∷ ms) W = play S ms (step S (eventOf W m) W)
 

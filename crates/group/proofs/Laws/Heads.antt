@@ -16,7 +16,7 @@ use Rattle.loops.specs.Below.{foldBelow, lastBelow, bit, countBelow}
 use Rattle.group.specs.Heads.{has, size, empty, common, either, less, only, within, highest, Share}
 use Rattle.loops.proofs.Laws.Truth.{clash, and-left, and-right, and-both, fails-if, not-both, test-ext}
 use Rattle.loops.proofs.Laws.Count.{count-cong, count-front, count-le, count-overlap, count-mono, count-find, count-pos}
-use Rattle.loops.proofs.Laws.Best.{last-is, last-member}
+use Rattle.loops.proofs.Laws.Last.{last-is, last-member}
 
 two-pos : zero < 2
 two-pos = zero-lt-suc 1

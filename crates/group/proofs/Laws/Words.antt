@@ -47,9 +47,6 @@ pub rank-some : (w : ℕ) → (w ≡ 0 → ⊥) → rank w ≡ num w + 1
 unfolding rank
 rank-some w h = simp (ne-eqb w 0 h)
 
-pub rank-zero : (w : ℕ) → rank w ≡ 0 → w ≡ 0
-rank-zero w e = ⊎-elim (λ z. z) (λ p. absurd (lt-irrefl 0 (omega (arith, rank-some w (λ z. lt-irrefl 0 (omega arith)))))) (eq-zero-or-pos w)
-
 pub none-or-some : (w : ℕ) → (w ≡ 0) ⊎ (rank w ≡ num w + 1)
 none-or-some w = ⊎-elim (λ z. inl z) (λ p. inr (rank-some w (λ z. lt-irrefl 0 (omega arith)))) (eq-zero-or-pos w)
 

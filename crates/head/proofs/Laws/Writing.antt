@@ -1,20 +1,16 @@
 -- The calls that write a line: a whole record's state has a line of known length, so an output that is long enough takes it.
 use mathlib.Core.Path.{_≡_, refl, sym, ap, _∙_}
-use mathlib.Core.List.{List, [], _∷_, _++_}
-use Prim.Native.Nat.{ℕ, _+_, _*_}
+use mathlib.Core.List.{List, _++_}
+use Prim.Native.Nat.{ℕ}
 use native.Mathlib.Omega.{arith}
 use lib.Dec.{eqb}
-use lib.ListN.{length, drop, length-append}
+use lib.ListN.{length, drop}
 use Rattle.loops.proofs.Laws.Truth.{cond-elim}
 use Rattle.group.specs.declared.answers.Refusal.{Refusal}
 use Rattle.group.specs.Answers.{refusalNumber, written, refused}
 use Rattle.record.specs.Layout.{own}
-use Rattle.record.specs.Whole.{whole}
-use Rattle.state.specs.declared.State.{State}
-use Rattle.state.specs.Values.{Tidy}
-use Rattle.lines.specs.Hex.{hexOf}
-use Rattle.lines.specs.Writing.{lineFor, attemptFrame, stateFrame, attemptLine, stateLine, writeAttempt, writeState, Wrote as Chars, wrote as chars}
-use Rattle.lines.proofs.Laws.Writing.{length-hex, length-head, length-state, attempt-written, state-written}
+use Rattle.lines.specs.Writing.{writeAttempt, writeState, Wrote as Chars, wrote as chars}
+use Rattle.lines.proofs.Laws.Writing.{length-attempt-line, length-state-line, attempt-written, state-written}
 use Rattle.telling.specs.Telling.{tells}
 use Rattle.telling.proofs.Laws.Telling.{tells-tidy}
 use Rattle.head.specs.declared.session.Session.{Session}
@@ -23,19 +19,6 @@ use Rattle.head.specs.Calls.{Wrote, writes, writeStateSpec, writeAttempt
 use Rattle.head.proofs.Laws.Fits.{usable-whole}
 use Rattle.head.proofs.Laws.Refusals.{may-write-state, may-write-attempt}
 use Rattle.head.proofs.Laws.Calls.{refused-by, allowed-by}
-
-line-length : (f : List ℕ) → length (lineFor f) ≡ length f * 2 + 1
-unfolding lineFor
-line-length f = length-append (hexOf f) (10 ∷ []) ∙ ap (λ (x : ℕ). x + 1) (length-hex f)
-
-pub attempt-length : (v x : ℕ) → length (attemptLine v x) ≡ 13
-unfolding attemptLine attemptFrame
-attempt-length v x = omega (arith, line-length (attemptFrame v x), length-head 2 v x)
-
-pub state-length : (v x : ℕ) (st : State) → Tidy st → length (stateLine v x st) ≡ 227 + 12 * st .count
-unfolding stateLine
-state-length v x st t =
-    omega (arith, line-length (stateFrame v x st), length-state v x st (t .formed) (omega (arith, t .count, t .places)))
 
 -- a refused call keeps the output
 writes-refused : (why : Refusal) (n : ℕ) (s : Session) (text out : List ℕ) → refusalNumber why ≡ n
@@ -72,7 +55,7 @@ module _ (s : Session) (r out : List ℕ) (n : ℕ) (left : List ℕ) where
       let m = may-write-state s r (length out) z in
       let t = tells-tidy r (usable-whole s r (m .fit)) in
       let w = e ∙ sym (state-written (s .view) (own r) out (tells r) _ (t .count) (m .long) refl) in
-      writes-done n _ s _ out left z (state-length (s .view) (own r) (tells r) t ∙ sym (same-chars w)) (same-out w ∙ rw (← (same-chars w)))
+      writes-done n _ s _ out left z (length-state-line (s .view) (own r) (tells r) (t .formed) (omega (arith, t .count, t .places)) ∙ sym (same-chars w)) (same-out w ∙ rw (← (same-chars w)))
 
   pub write-attempt-done : writeAttemptRefusal s r (length out) ≡ 0 → chars n left ≡ writeAttempt (s .view) (own r) out
       → writeAttemptSpec s r out ≡ record { answer = written n; session = s; out = left }
@@ -80,7 +63,7 @@ module _ (s : Session) (r out : List ℕ) (n : ℕ) (left : List ℕ) where
   write-attempt-done z e =
       let m = may-write-attempt s r (length out) z in
       let w = e ∙ sym (attempt-written (s .view) (own r) out _ (m .long) refl) in
-      writes-done n _ s _ out left z (attempt-length (s .view) (own r) ∙ sym (same-chars w)) (same-out w ∙ rw (← (same-chars w)))
+      writes-done n _ s _ out left z (length-attempt-line (s .view) (own r) ∙ sym (same-chars w)) (same-out w ∙ rw (← (same-chars w)))
 
 -- ---- a call that writes hands back the session that it was given
 

@@ -44,6 +44,7 @@ use Rattle.history.specs.Setting.{Setting}
 use Rattle.history.specs.Statement.{Head, running, World, form, newly, forms}
 use Rattle.history.proofs.Abstraction.{recOf, heardOf, volBy, volOf, headRec, headVol, worldOf}
 use Rattle.history.proofs.Invariant.{Reading, Live, Runs, none-gone, moved, put-here, moved-frame, moved-quiet, Many, many-reached}
+use Rattle.history.proofs.Calls.Begun.{none-begun}
 use Rattle.history.proofs.Calls.Ends.{refusal-elim, stores-elim, exec-long, Kept, stays, lost-ok, cut-ok}
 use Rattle.history.proofs.Calls.Going.{goes-on, members-here, member-has, has-member}
 
@@ -73,12 +74,8 @@ module _ (S : Setting) (p : ℕ) (r : List ℕ) (s : Session) (i : Runs S p r s)
   unfolding formChanges begun
   form-mends k =
       form-cut (s .members) r (suc k) is-forming
-      ∙ ap (λ (c : List Store). apply c r) (ap (λ (c : List Store). formStep (s .members) r ++ c) (none (suc k - length (formStep (s .members) r))) ∙ append-nil (formStep (s .members) r))
+      ∙ ap (λ (c : List Store). apply c r) (ap (λ (c : List Store). formStep (s .members) r ++ c) (none-begun (suc k - length (formStep (s .members) r))) ∙ append-nil (formStep (s .members) r))
       ∙ sym (after-one (formStep (s .members)) r)
-    where
-      none : (j : ℕ) → begun j [] ≡ []
-      none zero = refl
-      none (suc j) = refl
 
   form-none : exec (formStep (s .members) ∷ []) (desk r (budget 0)) .rec ≡ r
   unfolding apply

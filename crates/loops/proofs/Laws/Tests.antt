@@ -9,7 +9,7 @@ use native.Mathlib.Omega.{arith}
 use Rattle.loops.specs.Below.{foldBelow, allBelow, anyBelow, every}
 use Rattle.loops.proofs.Laws.Truth.{and-left, and-right, and-both, or-cases, or-left, or-right, fails-if, not-both, clash}
 use Rattle.loops.proofs.Laws.Order.{below-suc}
-use Rattle.loops.proofs.Laws.Fold.{fold-none, fold-next, fold-cong}
+use Rattle.loops.proofs.Laws.Fold.{fold-none, fold-next}
 
 -- ---- allBelow
 
@@ -34,10 +34,6 @@ pub all-of : (n : ℕ) (p : ℕ → Bool) → ((i : ℕ) → i < n → p i ≡ t
 unfolding allBelow foldBelow
 all-of zero p f = refl
 all-of (suc n) p f = and-both (allBelow n p) (p n) (all-of n p (λ i h. f i (le-trans h (le-suc n)))) (f n (le-refl (suc n)))
-
-pub all-cong : (n : ℕ) (p q : ℕ → Bool) → ((i : ℕ) → i < n → p i ≡ q i) → allBelow n p ≡ allBelow n q
-unfolding allBelow
-all-cong n p q e = fold-cong n _ _ true (λ i a h. ap (λ (b : Bool). a && b) (e i h))
 
 -- as a loop that takes every test goes
 pub all-again : (p : ℕ → Bool) {a b : Bool} (i : ℕ) → a ≡ allBelow i p → b ≡ p i → (a && b) ≡ allBelow (i + 1) p
@@ -82,9 +78,9 @@ any-of (suc n) p i h t =
     (λ l. or-left (anyBelow n p) (p n) (any-of n p i l t))
     (below-suc h)
 
-pub any-cong : (n : ℕ) (p q : ℕ → Bool) → ((i : ℕ) → i < n → p i ≡ q i) → anyBelow n p ≡ anyBelow n q
-unfolding anyBelow
-any-cong n p q e = fold-cong n _ _ false (λ i a h. ap (λ (b : Bool). a || b) (e i h))
+-- a loop that stops at the first that passes has come to its end
+pub any-not : (n : ℕ) (p : ℕ → Bool) → ((i : ℕ) → i < n → p i ≡ false) → anyBelow n p ≡ false
+any-not n p f = fails-if _ (λ t. let r = any-find n p t in not-both _ (r .2) (f (r .0) (r .1)))
 
 -- ---- every
 

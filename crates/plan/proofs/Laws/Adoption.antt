@@ -68,10 +68,6 @@ module _ (m : ℕ) (held : Held) (r : List ℕ) where
   unfolding adopts
   adopts-above e = ltb-true (rank (primary r)) (rank (bestOffer m held r)) e
 
-  pub above-adopts : rank (primary r) < rank (bestOffer m held r) → adopts m held r ≡ true
-  unfolding adopts
-  above-adopts h = lt-ltb (rank (primary r)) (rank (bestOffer m held r)) h
-
   pub adopts-some : adopts m held r ≡ true → bestOffer m held r ≡ 0 → ⊥
   adopts-some e z = lt-irrefl 0 (omega (arith, adopts-above e, ap rank z, rank-none))
 

@@ -10,14 +10,13 @@ use lib.Dec.{eqb, leb, ltb}
 use lib.ListN.{getD}
 use borrow.Author.Tests.{eqb-true, eq-eqb, ne-eqb, leb-true, leb-false, ltb-true, lt-ltb}
 use Rattle.loops.specs.Below.{foldBelow}
-use Rattle.loops.proofs.Laws.Truth.{and-left, and-right, and-both, or-cases, passes-or-fails, not-both}
+use Rattle.loops.proofs.Laws.Truth.{and-left, and-right, and-both, or-cases, passes-or-fails}
 use Rattle.loops.proofs.Laws.Order.{below-suc, lt-or-ge}
 use Rattle.loops.proofs.Laws.Tests.{all-at}
-use Rattle.loops.proofs.Laws.First.{first-passes, first-before}
+use Rattle.loops.proofs.Laws.First.{first-passes}
 use Rattle.group.specs.Answers.{no-quorum, numbers-run-out, no-place, attempted}
 use Rattle.group.specs.Heads.{has, size, highest, shared}
-use Rattle.group.specs.Words.{heads, rank, session}
-use Rattle.group.specs.Quorum.{passes}
+use Rattle.group.specs.Words.{heads, rank}
 use Rattle.group.proofs.Laws.Heads.{size-none, highest-member}
 use Rattle.group.proofs.Laws.Words.{highest-each, highest-from}
 use Rattle.group.proofs.Laws.Quorum.{pass-none, pass-enough}
@@ -171,10 +170,6 @@ module _ (m : ℕ) (held : Held) (r : List ℕ) where
 pub lowest-free : (r : List ℕ) → lowestFree r < 16 → placeAt r (lowestFree r) ≡ 0
 unfolding lowestFree
 lowest-free r h = eqb-true _ 0 (first-passes 16 (λ i. eqb (placeAt r i) 0) h)
-
-pub lowest-before : (r : List ℕ) (i : ℕ) → i < lowestFree r → placeAt r i ≡ 0 → ⊥
-unfolding lowestFree
-lowest-before r i h z = not-both (eqb (placeAt r i) 0) (eq-eqb _ 0 z) (first-before 16 (λ j. eqb (placeAt r j) 0) i h)
 
 -- ---- the answer "attempted" is given exactly when there is an attempt
 

@@ -2,14 +2,12 @@
 use mathlib.Core.Path.{_≡_, sym, ap, _∙_}
 use mathlib.Core.Bool.{Bool, true, false, not, cond, _&&_}
 use mathlib.Core.List.{List, []}
-use Prim.Native.Nat.{ℕ, _<_}
+use Prim.Native.Nat.{ℕ}
 use lib.Dec.{eqb, ltb}
 use lib.ListN.{getD}
 use borrow.Author.Tests.{eq-eqb, ne-eqb}
 use Rattle.loops.specs.Below.{anyBelow, table}
-use Rattle.loops.proofs.Laws.Truth.{not-both, fails-if}
 use Rattle.loops.proofs.Laws.Fold.{fold-cong}
-use Rattle.loops.proofs.Laws.Tests.{any-find}
 use Rattle.loops.proofs.Laws.Lists.{getD-table}
 use Rattle.group.specs.Heads.{has}
 use Rattle.group.specs.Words.{rank, highestOf}
@@ -52,10 +50,6 @@ highest-table f {words} e =
     (λ i w h. ap (λ (v : ℕ). cond (ltb (rank w) (rank v)) v w) (ap (λ (l : List ℕ). getD l i 0) e ∙ getD-table 16 f i 0 h))
 
 -- ---- a head that denies
-
--- a loop that stops at the first that passes has come to its end
-pub any-not : (n : ℕ) (p : ℕ → Bool) → ((i : ℕ) → i < n → p i ≡ false) → anyBelow n p ≡ false
-any-not n p f = fails-if _ (λ t. let r = any-find n p t in not-both _ (r .2) (f (r .0) (r .1)))
 
 pub denies-not : {x y a b : Bool} (c d : Bool) → x ≡ a → y ≡ b → not (x && y) ≡ true → false ≡ (a && b && c && d)
 denies-not {x} {y} {a} {b} c d e f t = go x y (a && b) (ap (λ (z : Bool). z && y) e ∙ ap (λ (z : Bool). a && z) f) t

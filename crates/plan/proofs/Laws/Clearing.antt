@@ -1,19 +1,18 @@
--- Laws of the clearings (c): each test taken apart, and back.
+-- Laws of the clearings (c): each test taken apart into the facts that it says.
 use mathlib.Core.Path.{_≡_, sym, ap, _∙_}
 use mathlib.Core.Bool.{Bool, true, false, not, _&&_}
 use mathlib.Core.Logic.{_⊎_, inl, inr, ⊎-elim}
 use mathlib.Core.List.{List}
 use Prim.Native.Nat.{ℕ, _<_}
-use native.Mathlib.Omega.{arith}
 use lib.Dec.{eqb, ltb}
 use lib.ListN.{getD}
 use borrow.Author.Tests.{eqb-true, eqb-false, eq-eqb, ne-eqb, ltb-true, lt-ltb}
 use Rattle.loops.specs.Below.{anyBelow}
-use Rattle.loops.proofs.Laws.Truth.{and-left, and-right, and-both, or-cases, or-left, or-right, not-true}
+use Rattle.loops.proofs.Laws.Truth.{and-left, and-right, and-both, or-cases, not-true}
 use Rattle.loops.proofs.Laws.Tests.{any-find, any-of}
-use Rattle.group.specs.Heads.{has, common, less, only}
+use Rattle.group.specs.Heads.{has, less, only}
 use Rattle.group.specs.Words.{heads, rank}
-use Rattle.group.proofs.Laws.Heads.{has-only, has-less, only-lt, common-lt, within-at, within-of}
+use Rattle.group.proofs.Laws.Heads.{has-only, has-less, only-lt, within-at}
 use Rattle.group.proofs.Laws.Words.{has-heads}
 use Rattle.record.specs.Layout.{own, placeAt, marksAt}
 use Rattle.record.proofs.Laws.Layout.{own-small}
@@ -35,22 +34,7 @@ unfolding allMarked
 all-marked-at r i e q h t n =
     within-at _ (marksAt r i) e q (others-of r i q h ∙ and-both _ _ t (ap not (ne-eqb (own r) q (λ s. n (sym s)))))
 
-pub all-marked-of : (r : List ℕ) (i : ℕ) → ((q : ℕ) → q < 16 → has (placeAt r i) q ≡ true → (q ≡ own r → ⊥) → has (marksAt r i) q ≡ true) → allMarked r i ≡ true
-unfolding allMarked less common
-all-marked-of r i f =
-    within-of (less (heads (placeAt r i)) (only (own r))) (marksAt r i) (common-lt (heads (placeAt r i)) _ (omega arith))
-    (λ q h t.
-    let both = sym (others-of r i q h) ∙ t in
-    f q h (and-left (has (placeAt r i) q) (not (eqb (own r) q)) both)
-    (λ s. eqb-false (own r) q (not-true (eqb (own r) q) (and-right (has (placeAt r i) q) (not (eqb (own r) q)) both)) (sym s)))
-
 -- ---- a state that lists session w
-
-pub lists-at : (st : State) (w : ℕ) → lists st w ≡ true → (j : ℕ) × (j < 16) × (j < st .count) × (getD (st .places) j 0 ≡ w)
-unfolding lists
-lists-at st w e =
-    let x = any-find 16 (λ j. ltb j (st .count) && eqb (getD (st .places) j 0) w) e in
-    (x .0, x .1, ltb-true _ _ (and-left (ltb (x .0) (st .count)) _ (x .2)), eqb-true _ _ (and-right (ltb (x .0) (st .count)) _ (x .2)))
 
 pub lists-of : (st : State) (w j : ℕ) → j < 16 → j < st .count → getD (st .places) j 0 ≡ w → lists st w ≡ true
 unfolding lists
@@ -64,14 +48,6 @@ behind-cases p w e =
     ⊎-elim (λ l. inl (ltb-true _ _ l))
     (λ s. inr (eqb-true _ _ (and-left (eqb (rank p) (rank w)) _ s), eqb-false _ _ (not-true _ (and-right (eqb (rank p) (rank w)) _ s))))
     (or-cases (ltb (rank p) (rank w)) _ e)
-
-pub behind-lower : (p w : ℕ) → rank p < rank w → behind p w ≡ true
-unfolding behind
-behind-lower p w h = or-left (ltb (rank p) (rank w)) _ (lt-ltb _ _ h)
-
-pub behind-same : (p w : ℕ) → rank p ≡ rank w → (heads p ≡ heads w → ⊥) → behind p w ≡ true
-unfolding behind
-behind-same p w e n = or-right (ltb (rank p) (rank w)) _ (and-both _ _ (eq-eqb _ _ e) (ap not (ne-eqb _ _ n)))
 
 -- ---- head q denies session w
 
@@ -98,10 +74,6 @@ module _ (m : ℕ) (held : Held) (r : List ℕ) (w q : ℕ) where
         is-behind = and-right (a && b && c) d e;
       }
 
-  pub make-denies : Denies m held r w q → denies m held r w q ≡ true
-  unfolding denies
-  make-denies d = and-both _ _ (and-both _ _ (and-both _ _ (d .in-session) (d .is-other)) (ap not (d .unlisted))) (d .is-behind)
-
 -- ---- a place to clear
 
 module _ (m : ℕ) (held : Held) (r : List ℕ) (i : ℕ) where
@@ -114,12 +86,3 @@ module _ (m : ℕ) (held : Held) (r : List ℕ) (i : ℕ) where
   to-clear-cases e =
       ⊎-elim inl (λ t. let x = any-find 16 (denies m held r (placeAt r i)) t in inr (x .0, x .1, denies-parts m held r (placeAt r i) (x .0) (x .2)))
       (or-cases (allMarked r i) (anyBelow 16 (denies m held r (placeAt r i))) (and-right (not (eqb (placeAt r i) 0)) _ e))
-
-  pub marked-clears : (placeAt r i ≡ 0 → ⊥) → allMarked r i ≡ true → toClear m held r i ≡ true
-  unfolding toClear
-  marked-clears n e = and-both _ _ (ap not (ne-eqb _ 0 n)) (or-left (allMarked r i) _ e)
-
-  pub denied-clears : (placeAt r i ≡ 0 → ⊥) → (q : ℕ) → q < 16 → Denies m held r (placeAt r i) q → toClear m held r i ≡ true
-  unfolding toClear
-  denied-clears n q h d =
-      and-both _ _ (ap not (ne-eqb _ 0 n)) (or-right (allMarked r i) _ (any-of 16 (denies m held r (placeAt r i)) q h (make-denies m held r (placeAt r i) q d)))

@@ -1,22 +1,19 @@
 -- Every step of decide is one change that recovery completes, or nothing, and leaves what decide is given: a whole record, of the same group and own head.
 use mathlib.Core.Path.{_≡_, refl, sym, ap, subst, _∙_}
 use mathlib.Core.Bool.{Bool, true, false, not, cond}
-use mathlib.Core.List.{List, [], _∷_}
-use Prim.Native.Nat.{ℕ, zero, suc, _+_, _-_, _<_}
+use mathlib.Core.List.{List, []}
+use Prim.Native.Nat.{ℕ, _+_, _<_}
 use native.Mathlib.Omega.{arith}
 use lib.Dec.{eqb}
 use lib.ListN.{length, getD}
 use borrow.Author.Tests.{ne-eqb, lt-ltb, le-leb}
 use Rattle.loops.proofs.Laws.Truth.{and-both, or-right}
 use Rattle.group.specs.Heads.{has}
-use Rattle.group.specs.Words.{heads, num, session, sound, sessionWord}
+use Rattle.group.specs.Words.{heads, num, sound, sessionWord}
 use Rattle.group.specs.Quorum.{enough}
 use Rattle.group.proofs.Laws.Words.{num-session, heads-session, has-heads}
 use Rattle.store.specs.Desk.{Store, apply, whereChanged}
 use Rattle.store.specs.Program.{Step, after, upTo}
-use Rattle.store.specs.Changes.{begun, stepStores, changesOf}
-use Rattle.store.proofs.Laws.Script.{apply-append}
-use Rattle.store.proofs.Laws.Changes.{changes-begun}
 use Rattle.record.specs.Layout.{settings, own, entered, number, storeMarks}
 use Rattle.record.specs.Whole.{whole}
 use Rattle.record.proofs.Laws.Layout.{Reads, same-own, own-small}
@@ -53,20 +50,6 @@ cond-same r false c f = record { group = refl; view = refl }
 
 reads-same : {r x : List ℕ} {n p : ℕ} {formed place marks : ℕ → ℕ} → Reads x (settings r) (entered r) n p formed place marks → Same r x
 reads-same s = record { group = s .settings-is; view = s .entered-is }
-
--- ---- a call cut anywhere keeps what each of its steps keeps
-
-safe-steps : {P : List ℕ → Type 0} (fs : List Step) (r : List ℕ) (k : ℕ) → AllSafe P fs → P r → P (apply (begun k (stepStores fs r)) r)
-unfolding stepStores begun apply
-safe-steps [] r zero none p = p
-safe-steps [] r (suc k) none p = p
-safe-steps (f ∷ fs) r zero (more s ss) p = p
-safe-steps {P} (f ∷ fs) r (suc k) (more s ss) p =
-    let j = suc k - length (f r) in
-    subst P (sym (apply-append (f r) (begun j (stepStores fs (apply (f r) r))) r)) (safe-steps fs (apply (f r) r) j ss (s .kept r p))
-
-safe-begun : {P : List ℕ → Type 0} (fs : List Step) (r : List ℕ) (k : ℕ) → AllSafe P fs → P r → P (apply (begun k (changesOf fs r)) r)
-safe-begun fs r k s p = rw (changes-begun k fs r) (safe-steps fs r k s p)
 
 -- ---- what decide is given stays
 
@@ -217,11 +200,6 @@ module _ (m : ℕ) (held : Held) where
     -- after all of it
     pub decided : Stays m held r (after (decideProgram m held) r)
     decided = safe-after (decideProgram m held) r (decide-safe r) starts
-
-    -- after the changes that k stores begin
-    pub decide-begun : (k : ℕ) → Stays m held r (apply (begun k (decideChanges m held r)) r)
-    unfolding decideChanges
-    decide-begun k = safe-begun (decideProgram m held) r k (decide-safe r) starts
 
     -- THE CHANGES OF DECIDE, ONE AFTER THE OTHER
     pub decide-sounds : Sounds (decideChanges m held r) r

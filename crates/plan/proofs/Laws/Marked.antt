@@ -1,17 +1,15 @@
--- What a marks: the heads that `adding` adds are those that pass its test, so that the marks after a are the marks before and the heads to mark, and are
--- still marks that a whole record may have.
+-- What a marks: a head that `adding` adds passes its test, so that a mark after a was there before or is of a head to mark, and the marks are still marks
+-- that a whole record may have.
 use mathlib.Core.Path.{_≡_, sym, ap, _∙_}
 use mathlib.Core.Bool.{Bool, true, false, not, cond, _&&_, _||_}
 use mathlib.Core.Logic.{_⊎_, inl, inr, ⊎-elim}
 use mathlib.Core.List.{List}
 use Prim.Native.Nat.{ℕ, _-_, _^_, _<_}
-use native.Mathlib.Nat.{not-suc-le-zero}
 use native.Mathlib.Omega.{arith}
 use lib.Dec.{eqb, ltb}
 use lib.Bits.{bitAnd, and-le-l, and-le-r}
-use borrow.Author.Tests.{eqb-true, eqb-false, eq-eqb, ne-eqb, ltb-true, lt-ltb}
-use Rattle.loops.proofs.Laws.Truth.{and-left, and-right, and-both, or-cases, or-left, or-right, passes-or-fails, not-true, or-false}
-use Rattle.loops.proofs.Laws.Order.{below-suc}
+use borrow.Author.Tests.{eqb-true, eqb-false, ne-eqb, ltb-true}
+use Rattle.loops.proofs.Laws.Truth.{and-left, and-right, and-both, or-cases, passes-or-fails, not-true, or-false}
 use Rattle.loops.proofs.Laws.Fold.{fold-keeps}
 use Rattle.group.specs.Heads.{has, common, either, less, only, within}
 use Rattle.group.specs.Words.{heads, rank}
@@ -44,19 +42,6 @@ module _ (p : ℕ → Bool) (s q : ℕ) where
       inr (omega arith, ap p (sym same) ∙ and-left (p i) (eqb i q) t))
       (or-cases (has a q) (p i && eqb i q) (sym (one-more (p i) a i q) ∙ e)))
 
-  pub adding-keeps : has s q ≡ true → has (adding p s) q ≡ true
-  unfolding adding
-  adding-keeps e = fold-keeps (λ (n : ℕ) (a : ℕ). has a q ≡ true) 16 _ s e (λ i a h ih. one-more (p i) a i q ∙ or-left (has a q) _ ih)
-
-  pub adding-adds : q < 16 → p q ≡ true → has (adding p s) q ≡ true
-  unfolding adding
-  adding-adds l e =
-      fold-keeps (λ (n : ℕ) (a : ℕ). q < n → has a q ≡ true) 16 _ s (λ h. absurd (not-suc-le-zero h))
-      (λ i a h ih b.
-      one-more (p i) a i q
-      ∙ ⊎-elim (λ x. or-right (has a q) _ (and-both (p i) (eqb i q) (ap p (sym x) ∙ e) (eq-eqb i q (sym x)))) (λ k. or-left (has a q) _ (ih k)) (below-suc b))
-      l
-
 pub adding-lt : (p : ℕ → Bool) (s : ℕ) → s < 2 ^ 16 → adding p s < 2 ^ 16
 unfolding adding
 adding-lt p s b = fold-keeps (λ (n : ℕ) (a : ℕ). a < 2 ^ 16) 16 _ s b (λ i a h ih. smaller (p i) a i h ih)
@@ -82,22 +67,10 @@ module _ (m : ℕ) (held : Held) (r : List ℕ) (i q : ℕ) where
       let ab = and-left (a && b) c e in
       record { in-place = and-left a b ab; is-other = and-right a b ab; below = ltb-true _ _ (and-right (a && b) c e) }
 
-  pub make-to-mark : ToMark m held r i q → toMark m held r i q ≡ true
-  unfolding toMark
-  make-to-mark t = and-both _ _ (and-both _ _ (t .in-place) (t .is-other)) (lt-ltb _ _ (t .below))
-
   -- a mark after a was there before, or is one of a's
   pub marked-from : has (marked m held r i) q ≡ true → (has (marksAt r i) q ≡ true) ⊎ (ToMark m held r i q)
   unfolding marked
   marked-from e = ⊎-elim inl (λ x. inr (to-mark-parts (x .1))) (adding-from (toMark m held r i) (marksAt r i) q e)
-
-  pub marked-keeps : has (marksAt r i) q ≡ true → has (marked m held r i) q ≡ true
-  unfolding marked
-  marked-keeps e = adding-keeps (toMark m held r i) (marksAt r i) q e
-
-  pub marked-adds : q < 16 → ToMark m held r i q → has (marked m held r i) q ≡ true
-  unfolding marked
-  marked-adds h t = adding-adds (toMark m held r i) (marksAt r i) q h (make-to-mark t)
 
 marked-lt : (m : ℕ) (held : Held) (r : List ℕ) (i : ℕ) → marksAt r i < 2 ^ 16 → marked m held r i < 2 ^ 16
 unfolding marked
@@ -110,10 +83,6 @@ other-member m r q e = and-left (has m q) (not (eqb q (own r))) e
 pub other-apart : (m : ℕ) (r : List ℕ) (q : ℕ) → other m r q ≡ true → q ≡ own r → ⊥
 unfolding other
 other-apart m r q e = eqb-false q (own r) (not-true (eqb q (own r)) (and-right (has m q) (not (eqb q (own r))) e))
-
-pub make-other : (m : ℕ) (r : List ℕ) (q : ℕ) → has m q ≡ true → (q ≡ own r → ⊥) → other m r q ≡ true
-unfolding other
-make-other m r q e f = and-both (has m q) (not (eqb q (own r))) e (ap not (ne-eqb q (own r) f))
 
 -- ---- they are marks that a whole record may have
 

@@ -2,7 +2,7 @@
 use native.Mathlib.Omega.{arith}
 use Prim.Native.Nat.{_≤_}
 use lib.Seq.{slice}
-use Rattle.stream.proofs.Laws.Parts.{NoEnd}
+use Rattle.lines.proofs.Laws.Alike.{NoEnd}
 use Rattle.reading.proofs.Laws.{ends-there, none-from-end, none-before, rest-begun, rest-all, end-found}
 use Rattle.reading.proofs.last_end.Statement.{statement}
 use Rattle.reading.proofs.last_end.Tie as tie

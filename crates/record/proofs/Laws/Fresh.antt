@@ -12,7 +12,7 @@ use borrow.Author.Tests.{eq-eqb, ne-eqb, eqb-false, leb-true, le-leb, le-ltb, lt
 use Rattle.loops.proofs.Laws.Truth.{and-left, and-right, and-both, or-left, or-right, not-true, passes-or-fails, clash}
 use Rattle.loops.proofs.Laws.Lists.{length-table, getD-table}
 use Rattle.group.specs.Heads.{has, size, empty}
-use Rattle.group.specs.Words.{heads, num, sound, sessionWord, primaryOk, formedOk}
+use Rattle.group.specs.Words.{num, sound, sessionWord, primaryOk, formedOk}
 use Rattle.group.specs.Quorum.{isGroup}
 use Rattle.group.specs.Fresh.{groupWord, freshWord, freshRecord}
 use Rattle.group.proofs.Laws.Heads.{has-none, size-le, size-none}

@@ -71,17 +71,9 @@ pub record Puts (s : Store) (field : List ℕ → ℕ) (w : ℕ) : Type 0 where
   pub old : (r : List ℕ) → word r (s .at) ≡ field r
   pub new : s .word ≡ w
 
-pub entered-puts : (v : ℕ) → Puts (storeEntered v) entered v
-unfolding storeEntered entered
-entered-puts v = record { old = λ r. refl; new = refl }
-
 pub number-puts : (n : ℕ) → Puts (storeNumber n) number n
 unfolding storeNumber number
 number-puts n = record { old = λ r. refl; new = refl }
-
-pub primary-puts : (w : ℕ) → Puts (storePrimary w) primary w
-unfolding storePrimary primary
-primary-puts w = record { old = λ r. refl; new = refl }
 
 pub formed-puts : (q w : ℕ) → Puts (storeFormed q w) (λ r. formedFor r q) w
 unfolding storeFormed formedFor

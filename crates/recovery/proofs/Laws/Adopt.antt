@@ -22,7 +22,7 @@ use Rattle.store.proofs.Laws.Script.{apply-append, apply-length}
 use Rattle.record.specs.Layout.{settings, own, entered, number, primary, formedFor, placeAt, marksAt, storeNumber, storePrimary, storeFormed, storePlace, storeMarks}
 use Rattle.record.specs.Whole.{whole}
 use Rattle.record.proofs.Laws.Layout.{Reads, number-stored, primary-stored}
-use Rattle.record.proofs.Laws.Whole.{Whole, whole-parts}
+use Rattle.record.proofs.Laws.Whole.{Whole, whole-parts, place-number}
 use Rattle.recovery.specs.Recover.{greatest, mended}
 use Rattle.recovery.specs.Changes.{clearChange, past, formedStores, adoptChange, formChange}
 use Rattle.recovery.specs.Statements.{Sound, AdoptSound, FormSound}
@@ -31,7 +31,6 @@ use Rattle.recovery.proofs.Laws.Fields.{formed-reads, cleared-reads}
 use Rattle.recovery.proofs.Laws.Greatest.{greatest-le, primary-le}
 use Rattle.recovery.proofs.Laws.Mended.{mendedFormed, mendedPlace, mendedMarks, mended-reads}
 use Rattle.recovery.proofs.Laws.Again.{agrees-number, agrees-formed, agrees-place, agrees-marks}
-use Rattle.recovery.proofs.Laws.Still.{place-below}
 use Rattle.recovery.proofs.Laws.Cut.{AllAgree, AllAgree.none as none, AllAgree.more as more, all-append, all-collect, if-agrees, change-sound}
 use Rattle.recovery.proofs.Laws.Follows.{Last.rises as rises, Placed, Placed.free as free, Placed.kept as kept, follows-whole}
 use Rattle.recovery.proofs.Laws.Small.{marks-stay, none-new}
@@ -158,7 +157,7 @@ module _ (r : List ℕ) (w : ℕ) (good : Whole r) (sw : sessionWord w ≡ true)
         formed = λ q h. rw (s .primary-is) (s .formed-is q h);
         places = places;
         one-new = none-new r good y (λ i h. rw (s .place-is i h)
-            (cond-elim (λ (v : ℕ). num v ≤ number r) (past r w i) 0 (placeAt r i) (λ t. omega arith) (λ t. place-below r good i h)));
+            (cond-elim (λ (v : ℕ). num v ≤ number r) (past r w i) 0 (placeAt r i) (λ t. omega arith) (λ t. place-number r good i h)));
       })
 
   -- ---- every store after the first puts what recovery would
@@ -175,7 +174,7 @@ module _ (r : List ℕ) (w : ℕ) (good : Whole r) (sw : sessionWord w ≡ true)
       let s = one r w (good .long) in
       le-antisymm
       (greatest-le (first r w (good .long)) (num w) (omega (arith, s .number-is)) (omega (arith, ap num (s .primary-is)))
-      (λ i h. omega (arith, ap num (s .place-is i h), place-below r good i h)))
+      (λ i h. omega (arith, ap num (s .place-is i h), place-number r good i h)))
       (omega (arith, primary-le (first r w (good .long)), ap num (s .primary-is)))
 
   clear-agrees : (i : ℕ) → i < 16 → (b : Bool) → past r w i ≡ b → AllAgree n (cond b (clearChange i) [])
@@ -216,7 +215,7 @@ used-past r w i good h hi e = go (eqb (placeAt r i) 0) refl
     below : rank (placeAt r i) ≤ rank w
     below =
         let some : rank w ≡ num w + 1 = rank-some w (λ z. absurd (omega (arith, ap rank z, rank-none))) in
-        ⊎-elim (λ z. omega (arith, ap rank z, rank-none)) (λ f. omega (arith, place-below r good i h)) (none-or-some (placeAt r i))
+        ⊎-elim (λ z. omega (arith, ap rank z, rank-none)) (λ f. omega (arith, place-number r good i h)) (none-or-some (placeAt r i))
 
     go : (b : Bool) → eqb (placeAt r i) 0 ≡ b → not b ≡ (not b && leb (rank (placeAt r i)) (rank w))
     go true t = refl

@@ -22,7 +22,7 @@ use Rattle.store.proofs.Laws.Put.{stored-length}
 use Rattle.store.proofs.Laws.Script.{apply-append, apply-length}
 use Rattle.store.proofs.Laws.Program.{script-append, script-one, upTo-none, upTo-next}
 use Rattle.store.proofs.Laws.Changes.{begun-none}
-use Rattle.record.specs.Layout.{number, primary, placeAt, storeNumber, storeFormed, storePlace, storeMarks}
+use Rattle.record.specs.Layout.{primary, placeAt, storeNumber, storeFormed, storePlace, storeMarks}
 use Rattle.record.specs.Whole.{whole}
 use Rattle.record.specs.Outcome.{Outcome}
 use Rattle.record.proofs.Laws.Whole.{whole-length}

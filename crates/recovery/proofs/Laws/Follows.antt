@@ -1,5 +1,5 @@
 -- When a record that follows a whole one is whole: the one argument behind every kind of change.
-use mathlib.Core.Bool.{Bool, true, false, not, cond}
+use mathlib.Core.Bool.{Bool, true, false, cond}
 use mathlib.Core.Logic.{_⊎_, inl, inr, ⊎-elim}
 use mathlib.Core.Path.{_≡_, refl, sym, ap, _∙_}
 use mathlib.Core.List.{List}
@@ -16,8 +16,8 @@ use Rattle.group.proofs.Laws.Formed.{Formed, Formed.member as member, Formed.no
 use Rattle.record.specs.Layout.{settings, core, least, own, entered, number, primary, formedFor, placeAt, marksAt}
 use Rattle.record.specs.Whole.{groupWhole, primaryWhole, formedWhole, placeWhole, apart, marksOk, marksWhole, whole}
 use Rattle.record.proofs.Laws.Layout.{same-core, same-least, same-own}
-use Rattle.record.proofs.Laws.Whole.{Whole, Used, make-whole, place-cases, free-whole, used-whole, apart-at, apart-of, marks-free, marks-used}
-use Rattle.recovery.proofs.Laws.Still.{place-below, whole-formed}
+use Rattle.record.proofs.Laws.Whole.{Whole, Used, make-whole, place-cases, place-number, free-whole, used-whole, apart-at, apart-of, marks-free, marks-used}
+use Rattle.recovery.proofs.Laws.Still.{whole-formed}
 
 -- last primary stays, or is a session with own head above it
 pub data Last (r y : List ℕ) : Type 0 where
@@ -138,8 +138,8 @@ module _ (r y : List ℕ) (w : Whole r) (f : Follows r y) where
       pair : (placeAt y i ≡ 0 → ⊥) → (placeAt y j ≡ 0 → ⊥) → num (placeAt y i) ≡ num (placeAt y j)
           → (placeAt y i ≡ placeAt r i) ⊎ (number r < num (placeAt y i)) → (placeAt y j ≡ placeAt r j) ⊎ (number r < num (placeAt y j)) → ⊥
       pair u v n (inl a) (inl b) = apart-at r i j (w .apart-places i h j l) (λ z. u (a ∙ z)) (λ z. v (b ∙ z)) (sym (ap num a) ∙ n ∙ ap num b)
-      pair u v n (inl a) (inr b) = absurd (omega (arith, place-below r w i h, ap num a))
-      pair u v n (inr a) (inl b) = absurd (omega (arith, place-below r w j (omega arith), ap num b))
+      pair u v n (inl a) (inr b) = absurd (omega (arith, place-number r w i h, ap num a))
+      pair u v n (inr a) (inl b) = absurd (omega (arith, place-number r w j (omega arith), ap num b))
       pair u v n (inr a) (inr b) = absurd (omega (arith, f .one-new i j h (omega arith) a b))
 
   marks-whole : (i : ℕ) → i < 16 → Placed r y i → marksWhole y i ≡ true

@@ -20,7 +20,7 @@ use Rattle.store.proofs.Laws.Put.{stored-length}
 use Rattle.record.specs.Layout.{settings, core, least, own, entered, number, primary, formedFor, placeAt, marksAt, storeEntered, storeNumber, storePlace, storeMarks}
 use Rattle.record.specs.Whole.{marksOk, marksWhole, whole}
 use Rattle.record.proofs.Laws.Layout.{Reads, changed, changed-here, changed-there, entered-stored, number-stored, place-stored, marks-stored}
-use Rattle.record.proofs.Laws.Whole.{Whole, Used, whole-parts, place-cases}
+use Rattle.record.proofs.Laws.Whole.{Whole, Used, whole-parts, place-cases, place-number}
 use Rattle.recovery.specs.Recover.{greatest}
 use Rattle.recovery.specs.Changes.{entryChange, markChange, clearChange, attemptChange}
 use Rattle.recovery.specs.Statements.{EntrySound, MarkSound, ClearSound, AttemptSound}
@@ -28,7 +28,7 @@ use Rattle.recovery.proofs.Laws.Changed.{changed-all, changed-ext}
 use Rattle.recovery.proofs.Laws.Greatest.{greatest-le, place-le}
 use Rattle.recovery.proofs.Laws.Mended.{mendedPlace, mended-reads}
 use Rattle.recovery.proofs.Laws.Again.{agrees-number, agrees-marks}
-use Rattle.recovery.proofs.Laws.Still.{place-below, whole-formed, whole-marks}
+use Rattle.recovery.proofs.Laws.Still.{whole-formed, whole-marks}
 use Rattle.recovery.proofs.Laws.Cut.{AllAgree.none as none, AllAgree.more as more, change-sound}
 use Rattle.recovery.proofs.Laws.Follows.{Last.stays as stays, Placed, Placed.free as free, Placed.kept as kept, Placed.new as new, follows-whole}
 
@@ -82,7 +82,7 @@ entry-whole r view w lim =
     let s = entered-stored r (w .long) view in
     steady r w s (stored-length (storeEntered view) r ∙ w .long) lim (omega arith) (w .top)
     (λ i h. place-stays r w y i h (s .primary-is) (s .place-is i h) (s .marks-is i h))
-    (none-new r w y (λ i h. rw (s .place-is i h) (place-below r w i h)))
+    (none-new r w y (λ i h. rw (s .place-is i h) (place-number r w i h)))
 
 pub entry-sound : EntrySound
 unfolding entryChange apply
@@ -97,7 +97,7 @@ mark-whole r i m w l ok =
     steady r w s (stored-length (storeMarks i m) r ∙ w .long) (w .view) (omega arith) (w .top)
     (λ j h. kept (s .place-is j h) (λ n. rw (s .primary-is) (place-above r w j h n))
     (rw (s .marks-is j h) (changed-all (λ (k v : ℕ). k < 16 → marksOk (own r) (placeAt r k) v ≡ true) i m (marksAt r) (λ b. ok) (marks-stay r w) j h)))
-    (none-new r w y (λ j h. rw (s .place-is j h) (place-below r w j h)))
+    (none-new r w y (λ j h. rw (s .place-is j h) (place-number r w j h)))
 
 pub mark-sound : MarkSound
 unfolding markChange apply
@@ -132,7 +132,7 @@ clear-whole r i w l =
     steady r w s (stored-length (storeMarks i 0) x ∙ long) (w .view) (omega arith) (w .top)
     (place-other r y w i (s .primary-is) (λ j h n. places j h ∙ changed-there i 0 (placeAt r) j n) (λ j h n. marks j h ∙ changed-there i 0 (marksAt r) j n)
     (free (places i l ∙ changed-here i 0 (placeAt r)) (marks i l ∙ changed-here i 0 (marksAt r))))
-    (none-new r w y (λ j h. rw (places j h) (changed-all (λ (k v : ℕ). k < 16 → num v ≤ number r) i 0 (placeAt r) (λ k. omega arith) (place-below r w) j h)))
+    (none-new r w y (λ j h. rw (places j h) (changed-all (λ (k v : ℕ). k < 16 → num v ≤ number r) i 0 (placeAt r) (λ k. omega arith) (place-number r w) j h)))
 
 pub clear-sound : ClearSound
 unfolding clearChange apply
@@ -165,7 +165,7 @@ module _ (r : List ℕ) (w : Whole r) (i v : ℕ) (l : i < 16) (up : number r < 
   raised-to =
       le-antisymm
       (greatest-le x (num v) (omega (arith, a .number-is)) (omega (arith, ap num (a .primary-is), w .highest))
-      (λ j h. rw (a .place-is j h) (changed-all (λ (k u : ℕ). k < 16 → num u ≤ num v) i v (placeAt r) (λ b. omega arith) (λ k b. omega (arith, place-below r w k b)) j h)))
+      (λ j h. rw (a .place-is j h) (changed-all (λ (k u : ℕ). k < 16 → num u ≤ num v) i v (placeAt r) (λ b. omega arith) (λ k b. omega (arith, place-number r w k b)) j h)))
       (omega (arith, place-le x i l, ap num place-here))
 
   -- and word 2
@@ -191,7 +191,7 @@ module _ (r : List ℕ) (w : Whole r) (i v : ℕ) (l : i < 16) (up : number r < 
   there j h n = s .place-is j h ∙ changed-there i v (placeAt r) j n
 
   only-here : (j : ℕ) → j < 16 → number r < num (placeAt y j) → j ≡ i
-  only-here j h b = ⊎-elim (λ t. eqb-true j i t) (λ t. absurd (omega (arith, place-below r w j h, ap num (there j h (eqb-false j i t))))) (passes-or-fails (eqb j i))
+  only-here j h b = ⊎-elim (λ t. eqb-true j i t) (λ t. absurd (omega (arith, place-number r w j h, ap num (there j h (eqb-false j i t))))) (passes-or-fails (eqb j i))
 
   above-primary : rank (primary r) < rank v
   above-primary =

@@ -9,7 +9,7 @@ use lib.ListN.{length, take}
 use Rattle.loops.proofs.Laws.Truth.{clash}
 use Rattle.store.specs.Desk.{Store, desk, budget, apply, differs}
 use Rattle.store.specs.Program.{Step, exec, script, after, upTo}
-use Rattle.store.specs.Changes.{Change, nonEmpty, allStores, begun, stepStores, made, changesOf}
+use Rattle.store.specs.Changes.{Change, nonEmpty, begun, stepStores, made, changesOf}
 use Rattle.store.proofs.Laws.Script.{apply-append}
 use Rattle.store.proofs.Laws.Program.{exec-take, upTo-none, upTo-next}
 use Rattle.store.proofs.Laws.Changes.{changes-script}
@@ -20,27 +20,13 @@ use Rattle.recovery.proofs.Laws.Cut.{recovers-done}
 
 -- ---- changes
 
-pub sounds-append : (cs ds : List Change) (r : List ℕ) → Sounds cs r → Sounds ds (apply (allStores cs) r) → Sounds (cs ++ ds) r
-unfolding allStores apply
-sounds-append [] ds r (last e) t = t
-sounds-append (c ∷ cs) ds r (next s ss) t = next s (sounds-append cs ds (apply c r) ss (subst (Sounds ds) (apply-append c (allStores cs) r) t))
-
--- the record is whole before them, after those begun, and after all
-pub sounds-before : (cs : List Change) (r : List ℕ) → Sounds cs r → whole r ≡ true
-sounds-before [] r (last e) = e
-sounds-before (c ∷ cs) r (next s ss) = s .before
-
+-- the record is whole after those begun
 pub sounds-begun : (cs : List Change) (r : List ℕ) (k : ℕ) → Sounds cs r → whole (apply (begun k cs) r) ≡ true
 unfolding begun apply
 sounds-begun [] r zero (last e) = e
 sounds-begun [] r (suc k) (last e) = e
 sounds-begun (c ∷ cs) r zero (next s ss) = s .before
 sounds-begun (c ∷ cs) r (suc k) (next s ss) = ap whole (apply-append c (begun (suc k - length c) cs) r) ∙ sounds-begun cs (apply c r) (suc k - length c) ss
-
-pub sounds-after : (cs : List Change) (r : List ℕ) → Sounds cs r → whole (apply (allStores cs) r) ≡ true
-unfolding allStores apply
-sounds-after [] r (last e) = e
-sounds-after (c ∷ cs) r (next s ss) = ap whole (apply-append c (allStores cs) r) ∙ sounds-after cs (apply c r) ss
 
 pub sounds-one : (c : Change) (r : List ℕ) → Sound r c → Sounds (c ∷ []) r
 sounds-one c r s = next s (last (s .after))

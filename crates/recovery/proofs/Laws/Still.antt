@@ -3,14 +3,14 @@ use mathlib.Core.Bool.{true}
 use mathlib.Core.Logic.{⊎-elim}
 use mathlib.Core.Path.{_≡_, sym, _∙_}
 use mathlib.Core.List.{List, [], _∷_, _++_}
-use Prim.Native.Nat.{ℕ, zero, suc, _≤_, _<_}
+use Prim.Native.Nat.{ℕ, zero, suc, _<_}
 use native.Mathlib.Nat.{le-antisymm}
 use native.Mathlib.Omega.{arith}
 use lib.Dec.{eqb, leb}
 use borrow.Author.Tests.{eqb-true, leb-true}
 use Rattle.loops.proofs.Laws.Truth.{and-right, not-both}
 use Rattle.group.specs.Heads.{has}
-use Rattle.group.specs.Words.{num, rank, sessionWord}
+use Rattle.group.specs.Words.{rank, sessionWord}
 use Rattle.group.proofs.Laws.Formed.{Formed, Formed.member as member, Formed.none as none, Formed.lower as lower, formed-cases}
 use Rattle.store.specs.Desk.{apply}
 use Rattle.store.specs.Program.{Step, script, after, upTo}
@@ -18,7 +18,7 @@ use Rattle.store.proofs.Laws.Program.{script-append, script-one, upTo-none, upT
 use Rattle.record.specs.Layout.{own, number, primary, formedFor, placeAt, marksAt}
 use Rattle.record.specs.Whole.{formedWhole, marksWhole, whole}
 use Rattle.record.proofs.Laws.Layout.{number-puts, formed-puts, place-puts, marks-puts, not-stored}
-use Rattle.record.proofs.Laws.Whole.{Whole, whole-parts, place-cases, marks-free}
+use Rattle.record.proofs.Laws.Whole.{Whole, whole-parts, place-cases, place-number, marks-free}
 use Rattle.recovery.specs.Recover.{greatest, raiseStep, formedStep, clearStep, wipeStep, mendProgram, mended}
 use Rattle.recovery.specs.Statements.{StoresNothing}
 use Rattle.recovery.proofs.Laws.Greatest.{greatest-le, number-le}
@@ -26,11 +26,8 @@ use Rattle.recovery.proofs.Laws.Greatest.{greatest-le, number-le}
 -- ---- what a whole record has
 
 module _ (r : List ℕ) (w : Whole r) where
-  pub place-below : (i : ℕ) → i < 16 → num (placeAt r i) ≤ number r
-  place-below i h = ⊎-elim (λ z. rw z (omega arith)) (λ u. u .below) (place-cases r i (w .places i h))
-
   pub whole-greatest : greatest r ≡ number r
-  whole-greatest = le-antisymm (greatest-le r (number r) (omega arith) (w .highest) place-below) (number-le r)
+  whole-greatest = le-antisymm (greatest-le r (number r) (omega arith) (w .highest) (place-number r w)) (number-le r)
 
   pub whole-formed : (q : ℕ) → q < 16 → has (primary r) q ≡ true → formedFor r q ≡ primary r
   unfolding formedWhole

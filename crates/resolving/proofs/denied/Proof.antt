@@ -6,9 +6,9 @@ use native.Mathlib.Nat.{not-suc-le-zero}
 use native.Mathlib.Omega.{arith}
 use borrow.Author.Needs.{needs}
 use Rattle.loops.proofs.Laws.Order.{each-suc}
-use Rattle.loops.proofs.Laws.Tests.{any-of}
+use Rattle.loops.proofs.Laws.Tests.{any-of, any-not}
 use Rattle.plan.specs.Clearing.{denies}
-use Rattle.plan.proofs.Laws.Branches.{any-not, denies-by}
+use Rattle.plan.proofs.Laws.Branches.{denies-by}
 use Rattle.resolving.proofs.denied.Statement.{statement}
 use Rattle.resolving.proofs.denied.Tie as tie
 

@@ -11,9 +11,8 @@ use borrow.Author.Tests.{lt-ltb, le-ltb, eq-eqb, ne-eqb}
 use borrow.Author.Needs.{needs}
 use Rattle.loops.specs.Below.{anyBelow}
 use Rattle.loops.proofs.Laws.Order.{each-suc, lt-or-ge}
-use Rattle.loops.proofs.Laws.Tests.{any-of}
+use Rattle.loops.proofs.Laws.Tests.{any-of, any-not}
 use Rattle.plan.specs.Clearing.{lists}
-use Rattle.plan.proofs.Laws.Branches.{any-not}
 use Rattle.resolving.proofs.lists.Statement.{statement}
 use Rattle.resolving.proofs.lists.Tie as tie
 

@@ -1,37 +1,19 @@
 -- Laws of changes that do not ask what recovery does with them. By induction on the changes.
 use mathlib.Core.Bool.{true}
-use mathlib.Core.Path.{_≡_, refl, sym, ap, _∙_}
-use mathlib.Core.List.{List, [], _∷_, _++_, append-assoc}
+use mathlib.Core.Path.{_≡_, refl, ap, _∙_}
+use mathlib.Core.List.{List, [], _∷_, _++_}
 use Prim.Native.Nat.{ℕ, zero, suc, _-_}
 use native.Mathlib.Omega.{arith}
-use lib.ListN.{length, length-append}
+use lib.ListN.{length}
 use Rattle.store.specs.Desk.{Store, apply}
 use Rattle.store.specs.Program.{Step, script}
 use Rattle.store.specs.Changes.{Change, allNonEmpty, allStores, begun, changesOf, made, nonEmpty, stepStores}
-
-pub stores-append : (cs ds : List Change) → allStores (cs ++ ds) ≡ allStores cs ++ allStores ds
-unfolding allStores
-stores-append [] ds = refl
-stores-append (c ∷ cs) ds = ap (λ (s : List Store). c ++ s) (stores-append cs ds) ∙ sym (append-assoc c (allStores cs) (allStores ds))
 
 -- before the first store nothing is done
 pub begun-none : (cs : List Change) → begun 0 cs ≡ []
 unfolding begun
 begun-none [] = refl
 begun-none (c ∷ cs) = refl
-
--- later changes begin when the stores of the earlier ones are made
-pub begun-append : (k : ℕ) (cs ds : List Change) → begun k (cs ++ ds) ≡ begun k cs ++ begun (k - length (allStores cs)) ds
-unfolding begun allStores
-begun-append k [] ds = ap (λ (j : ℕ). begun j ds) (omega arith)
-begun-append zero (c ∷ cs) ds = sym (ap (λ (j : ℕ). begun j ds) (none (length (c ++ allStores cs))) ∙ begun-none ds)
-  where
-    none : (n : ℕ) → 0 - n ≡ 0
-    none n = omega arith
-begun-append (suc k) (c ∷ cs) ds =
-    ap (λ (s : List Store). c ++ s) (begun-append (suc k - length c) cs ds)
-    ∙ sym (append-assoc c (begun (suc k - length c) cs) (begun (suc k - length c - length (allStores cs)) ds))
-    ∙ ap (λ (j : ℕ). (c ++ begun (suc k - length c) cs) ++ begun j ds) (omega (arith, length-append c (allStores cs)))
 
 -- ---- steps that store nothing left out: the same stores, and the same are done after k of them
 
