@@ -40,7 +40,7 @@ brought w got = clamped got (8192 - heldCount w)
 unfoldable pub linesEnd : List ℕ → ℕ
 linesEnd s = length s - length (begun [] s)
 
--- after a read that brought n bytes behind those held. Where it brought none, the bytes held are all that is left of the input and no read is left to make;
+-- after a read that brought n bytes behind those held. Where it brought none, the bytes held, if any, are of a last line that does not end, and no read is left to make;
 -- else all whole lines are handed on, and there is exactly one read less to make
 unfoldable pub afterBytes : List ℕ → World → ℕ → World
 afterBytes buf w n = cond (eqb n 0) (atRead w 0 (heldCount w) 0) (atRead w (linesEnd (take (heldCount w + n) buf)) (heldCount w + n) (w .turns - 1))

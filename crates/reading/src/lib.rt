@@ -67,7 +67,7 @@ fn at_read(w: World, stop: usize, end: usize, turns: u64) -> World
     r
 }
 
-// The world after a read that answered got. A read that brings bytes never ends the run.
+// The world after a read that answered got. One that brings bytes takes one off the reads left to make; one that brings none ends the run.
 fn after_read(buf: &[u8], w: World, got: isize) -> World
     requires { ⌜ Between (now buf) w × (0 < w .turns) ⌝ }
     ensures { λ r. ⌜ r ≡ afterRead (now (buf .entry)) w got ⌝ }

@@ -1,4 +1,4 @@
--- Laws of the clearings (c): each test taken apart into the facts that it says.
+-- Laws of the clearings (c): each test taken apart into the facts that it says, but for `lists`, which is put together from them.
 use mathlib.Core.Path.{_≡_, sym, ap, _∙_}
 use mathlib.Core.Bool.{Bool, true, false, not, _&&_}
 use mathlib.Core.Logic.{_⊎_, inl, inr, ⊎-elim}
