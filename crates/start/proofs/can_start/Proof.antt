@@ -1,3 +1,4 @@
+-- A head of at most 15, and the test of the group: the definition, part by part.
 use Rattle.record.proofs.Laws.Start.{can-test}
 use borrow.Author.Needs.{needs}
 use Rattle.start.proofs.can_start.Statement.{statement}

@@ -1,3 +1,4 @@
+-- The count and the places, spelled one after the other, are spelled together.
 use Rattle.lines.proofs.Laws.Writing.{length-as-held, spell-then}
 use lib.ListN.{length}
 use Prim.Native.Nat.{ℕ}
