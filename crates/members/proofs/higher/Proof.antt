@@ -1,5 +1,5 @@
 -- The choice by rank, as in the definition.
-use mathlib.Core.Path.{_∙_}
+use mathlib.Core.Path.{refl, _∙_}
 use borrow.Author.Needs.{needs}
 use Rattle.members.proofs.higher.Statement.{statement}
 use Rattle.members.proofs.higher.Tie as tie
@@ -14,7 +14,7 @@ choose-requires : tie.Need-choose-requires
 choose-requires c κs = search needs
 
 returns : tie.Need-returns
-returns c = c .choose .ensures ∙ rw (c .before .rank-of2 .ensures, c .before .before .rank-of .ensures)
+returns c = c .choose .ensures ∙ rw (c .before .rank-of2 .ensures, c .before .before .rank-of .ensures) refl
 
 pub higher-spec : {M : Type 1} → statement M
 higher-spec = tie.close (tie.spec rank-of-requires rank-of-requires-2 choose-requires returns)

@@ -1,5 +1,5 @@
 -- The change of the place's word, asked where the place is at or below last primary, is the step.
-use mathlib.Core.Path.{_∙_}
+use mathlib.Core.Path.{refl, _∙_}
 use Rattle.store.specs.Program.{stepBy}
 use Rattle.recovery.specs.Recover.{clearStep}
 use borrow.Author.Needs.{needs}
@@ -26,7 +26,7 @@ same-length c = search needs
 
 returns : tie.Need-returns
 unfolding stepBy clearStep
-returns c = c .before .before .change-place .ensures ∙ rw (c .before .before .before .before .rank-of2 .ensures, c .before .before .before .before .before .before .before .rank-of .ensures, c .before .before .before .before .before .primary .ensures, c .before .before .before .before .before .before .before .before .place-at .ensures)
+returns c = c .before .before .change-place .ensures ∙ rw (c .before .before .before .before .rank-of2 .ensures, c .before .before .before .before .before .before .before .rank-of .ensures, c .before .before .before .before .before .primary .ensures, c .before .before .before .before .before .before .before .before .place-at .ensures) refl
 
 pub clear-place-spec : {M : Type 1} → statement M
 clear-place-spec =

@@ -1,5 +1,5 @@
 -- The change of the session number to the greatest number is the step.
-use mathlib.Core.Path.{_∙_}
+use mathlib.Core.Path.{refl, _∙_}
 use Rattle.store.specs.Program.{stepBy}
 use Rattle.recovery.specs.Recover.{raiseStep}
 use borrow.Author.Needs.{needs}
@@ -17,7 +17,7 @@ same-length c = search needs
 
 returns : tie.Need-returns
 unfolding stepBy raiseStep
-returns c = c .before .before .change-number .ensures ∙ rw (c .before .before .before .before .greatest .ensures)
+returns c = c .before .before .change-number .ensures ∙ rw (c .before .before .before .before .greatest .ensures) refl
 
 pub raise-spec : {M : Type 1} → statement M
 raise-spec = tie.close (tie.spec greatest-requires change-number-requires same-length returns)

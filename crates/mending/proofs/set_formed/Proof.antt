@@ -1,5 +1,5 @@
 -- The change of last formed to last primary, asked where q is in it, is the step.
-use mathlib.Core.Path.{_∙_}
+use mathlib.Core.Path.{refl, _∙_}
 use Rattle.store.specs.Program.{stepBy}
 use Rattle.recovery.specs.Recover.{formedStep}
 use borrow.Author.Needs.{needs}
@@ -20,7 +20,7 @@ same-length c = search needs
 
 returns : tie.Need-returns
 unfolding stepBy formedStep
-returns c = c .before .before .change-formed .ensures ∙ rw (c .before .before .before .before .has-head .ensures, c .before .before .before .before .before .primary .ensures)
+returns c = c .before .before .change-formed .ensures ∙ rw (c .before .before .before .before .has-head .ensures, c .before .before .before .before .before .primary .ensures) refl
 
 pub set-formed-spec : {M : Type 1} → statement M
 set-formed-spec =

@@ -1,5 +1,5 @@
 -- The change of the marks to none, asked where the place is free, is the step.
-use mathlib.Core.Path.{_∙_}
+use mathlib.Core.Path.{refl, _∙_}
 use Rattle.store.specs.Program.{stepBy}
 use Rattle.recovery.specs.Recover.{wipeStep}
 use borrow.Author.Needs.{needs}
@@ -17,7 +17,7 @@ same-length c = search needs
 
 returns : tie.Need-returns
 unfolding stepBy wipeStep
-returns c = c .before .before .change-marks .ensures ∙ rw (c .before .before .before .before .place-at .ensures)
+returns c = c .before .before .change-marks .ensures ∙ rw (c .before .before .before .before .place-at .ensures) refl
 
 pub wipe-marks-spec : {M : Type 1} → statement M
 wipe-marks-spec = tie.close (tie.spec place-at-requires change-marks-requires same-length returns)

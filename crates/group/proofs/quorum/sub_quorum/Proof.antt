@@ -32,7 +32,7 @@ at : (c : tie.Start) → passes highest (c .args .core) (c .args .least) (c .arg
 at c = counted (c .args .core) (c .args .least) (c .args .s) (c .args .t) (c .fits .core .fits) (c .fits .s .fits)
 
 returns : tie.Need-returns
-returns c = simp (at (c .before), eq-eqb _ _ (c .if1 .taken))
+returns c = simp (at (c .before), eq-eqb _ _ (c .if1 .taken)) refl
 
 returns-2 : tie.Need-returns-2
 returns-2 c = simp (at (c .before .before), ne-eqb _ _ (c .before .if1 .left), lt-leb _ _ (c .if2 .taken))

@@ -1,4 +1,5 @@
 -- Each return stands behind the tests of the rules before it.
+use mathlib.Core.Path.{refl}
 use Rattle.state.specs.Rules.{broken}
 use Rattle.loops.proofs.Laws.Truth.{failed, passed}
 use borrow.Author.Needs.{needs}
@@ -19,7 +20,7 @@ returns-2 : tie.Need-returns-2
 unfolding broken
 returns-2 c =
     let b = c .before .before in
-    simp (passed _ _ (b .before .rule4 .ensures) (b .if1 .left), failed _ _ (c .before .rule5 .ensures) (c .if2 .taken))
+    simp (passed _ _ (b .before .rule4 .ensures) (b .if1 .left), failed _ _ (c .before .rule5 .ensures) (c .if2 .taken)) refl
 
 rule6-requires : tie.Need-rule6-requires
 rule6-requires c κs = search needs

@@ -2,7 +2,6 @@
 use Rattle.state.specs.Rules.{keepsRules}
 use borrow.Author.Tests.{lt-leb, le-leb}
 use native.Mathlib.Omega.{arith}
-use borrow.Author.Needs.{needs}
 use Rattle.state.proofs.rules.keeps_rules.Statement.{statement}
 use Rattle.state.proofs.rules.keeps_rules.Tie as tie
 
@@ -11,7 +10,7 @@ unfolding keepsRules
 returns c = simp (lt-leb (c .before .before .args .st .count) 16 (omega arith))
 
 keeps-held-requires : tie.Need-keeps-held-requires
-keeps-held-requires c κs = search needs
+keeps-held-requires c κs = (c .before .before .pre, c .if1 .left)
 
 returns-2 : tie.Need-returns-2
 unfolding keepsRules

@@ -1,4 +1,5 @@
 -- The code is the definition, part by part.
+use mathlib.Core.Path.{refl}
 use Rattle.state.specs.Rules.{placeOk}
 use borrow.Author.Needs.{needs}
 use Rattle.state.proofs.rules.place_ok.Statement.{statement}
@@ -21,7 +22,7 @@ has-head-requires c κs = search needs
 
 returns : tie.Need-returns
 unfolding placeOk
-returns c = rw (c .before .before .before .before .number-of .ensures, c .before .before .before .number-of2 .ensures, c .before .before .rank-of .ensures, c .before .rank-of2 .ensures, c .has-head .ensures)
+returns c = rw (c .before .before .before .before .number-of .ensures, c .before .before .before .number-of2 .ensures, c .before .before .rank-of .ensures, c .before .rank-of2 .ensures, c .has-head .ensures) refl
 
 pub place-ok-spec : {M : Type 1} → statement M
 place-ok-spec =

@@ -1,4 +1,5 @@
 -- The code is the definition, part by part.
+use mathlib.Core.Path.{refl}
 use Rattle.state.specs.Rules.{rule7}
 use borrow.Author.Needs.{needs}
 use Rattle.state.proofs.rules.rule7.Statement.{statement}
@@ -18,7 +19,7 @@ all-within-requires-2 c κs = search needs
 
 returns : tie.Need-returns
 unfolding rule7
-returns c = rw (c .before .before .number-of .ensures, c .before .all-within .ensures, c .all-within2 .ensures)
+returns c = rw (c .before .before .number-of .ensures, c .before .all-within .ensures, c .all-within2 .ensures) refl
 
 pub rule7-spec : {M : Type 1} → statement M
 rule7-spec =
