@@ -97,3 +97,17 @@ pub fn formed_ok(own: usize, p: u64, q: usize, w: u64) -> bool
         | (!among
             & ((w == 0) | (has_head(w, own) & has_head(w, q) & (number_of(w) < number_of(p)))))
 }
+
+// The same with branches: of words that are nearly always the usual ones it is foreseen which are taken.
+pub fn formed_fits(own: usize, p: u64, q: usize, w: u64) -> bool
+    requires { ⌜ (own < 16) × (q < 16) ⌝ }
+    ensures { λ r. ⌜ r ≡ formedOk own p q w ⌝ }
+{
+    if has_head(p, q) {
+        return w == p;
+    }
+    if w == 0 {
+        return true;
+    }
+    has_head(w, own) & has_head(w, q) & (number_of(w) < number_of(p))
+}

@@ -1,6 +1,7 @@
 // Line rules 4 to 7, with the sender as own head.
 use crate::State;
 use group::Group;
+use group::words::formed_fits;
 use group::words::formed_ok;
 use group::words::has_head;
 use group::words::number_of;
@@ -195,20 +196,7 @@ pub fn broken(st: State, sender: usize) -> u8
     first_broken(st, sender)
 }
 
-// Last formed w for head q. Branches, where `formed_ok` has none: the states that a head holds are nearly always alike, so that it is foreseen which are taken.
-fn formed_fits(own: usize, p: u64, q: usize, w: u64) -> bool
-    requires { ⌜ (own < 16) × (q < 16) ⌝ }
-    ensures { λ r. ⌜ r ≡ formedOk own p q w ⌝ }
-{
-    if has_head(p, q) {
-        return w == p;
-    }
-    if w == 0 {
-        return true;
-    }
-    has_head(w, own) & has_head(w, q) & (number_of(w) < number_of(p))
-}
-
+// The states that a head holds are nearly always alike: they are judged with branches, and end at the first word that fails.
 fn all_formed_fit(own: usize, p: u64, words: [u64; Group::HEADS]) -> bool
     requires { ⌜ own < 16 ⌝ }
     ensures { λ r. ⌜ r ≡ allBelow 16 (λ q. formedOk own p q (getD words q 0)) ⌝ }

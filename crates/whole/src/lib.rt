@@ -4,6 +4,7 @@ use group::heads::shared;
 use group::heads::size;
 use group::heads::wide;
 use group::heads::without_head;
+use group::words::formed_fits;
 use group::words::has_head;
 use group::words::heads_of;
 use group::words::lies_in;
@@ -63,13 +64,7 @@ fn formed_whole(own: usize, p: u64, q: usize, w: u64) -> bool
     requires { ⌜ (own < 16) × (q < 16) × (sessionWord p ≡ true) ⌝ }
     ensures { λ r. ⌜ r ≡ (sessionWord w && formedOk own p q w) ⌝ }
 {
-    if has_head(p, q) {
-        return w == p;
-    }
-    if w == 0 {
-        return true;
-    }
-    has_head(w, own) & has_head(w, q) & (number_of(w) < number_of(p))
+    formed_fits(own, p, q, w)
 }
 
 fn all_formed(rec: &[u64]) -> bool

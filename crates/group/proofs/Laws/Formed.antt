@@ -51,7 +51,7 @@ formed-usual own p q w e =
     (passes-or-fails (has p q))
 
 -- of a session with a head, a lower number is a lower rank
-pub rank-order : (w p : ℕ) → (w ≡ 0 → ⊥) → ltb (num w) (num p) ≡ ltb (rank w) (rank p)
+rank-order : (w p : ℕ) → (w ≡ 0 → ⊥) → ltb (num w) (num p) ≡ ltb (rank w) (rank p)
 rank-order w p h =
     ⊎-elim
     (λ z. le-ltb (num w) (num p) (omega arith) ∙ sym (le-ltb (rank w) (rank p) (omega (arith, ap rank z ∙ rank-none))))

@@ -11,13 +11,13 @@ use lib.Dec.{eqb, leb, ltb}
 use lib.ListN.{length}
 use borrow.Author.Tests.{ne-eqb, eqb-false, leb-true, le-leb, ltb-true, lt-ltb}
 use Rattle.loops.specs.Below.{allBelow}
-use Rattle.loops.proofs.Laws.Truth.{and-left, and-right, and-both, not-both, not-true, fails-if, test-ext, or-false}
+use Rattle.loops.proofs.Laws.Truth.{and-left, and-right, and-both, not-both, not-true, fails-if, test-ext}
 use Rattle.loops.proofs.Laws.Tests.{all-at, all-of}
 use Rattle.group.specs.Heads.{has, shared}
 use Rattle.group.specs.Words.{heads, num, rank, sound, sessionWord, primaryOk, formedOk}
 use Rattle.group.specs.Quorum.{enough}
 use Rattle.group.proofs.Laws.Words.{rank-none, rank-some, none-or-some, word-sound, word-number}
-use Rattle.group.proofs.Laws.Formed.{rank-order, formed-usual, formed-cases, has-sound, primary-sound, formed-sound, formed-number}
+use Rattle.group.proofs.Laws.Formed.{formed-cases, has-sound, primary-sound, formed-sound, formed-number}
 use Rattle.record.specs.Layout.{core, least, own, entered, number, primary, placeAt, marksAt}
 use Rattle.record.specs.Whole.{groupWhole, limitsWhole, primaryWhole, formedWhole, usedOk, placeWhole, apart, apartWhole, topWhole, marksWhole, whole}
 use Rattle.record.proofs.Laws.Whole.{make-whole, whole-parts, used-parts, make-used, place-cases, apart-at, apart-of, free-whole, free-apart, marks-free}
@@ -76,28 +76,12 @@ module _ (r : List ℕ) (t : (groupWhole r && limitsWhole r && primaryWhole r &&
 
 -- ---- last formed
 
-formed-test : (own p q w : ℕ) → own < 16 → sessionWord p ≡ true → formedOk own p q w ≡ (sessionWord w && formedOk own p q w)
+-- in order beside a last primary that is a session word, it is one
+pub formed-test : (own p q w : ℕ) → own < 16 → sessionWord p ≡ true → formedOk own p q w ≡ (sessionWord w && formedOk own p q w)
 formed-test own p q w h s =
     implied (sessionWord w) (formedOk own p q w) (λ e.
     let c = formed-cases own p q w e in
     word-of w (formed-sound own p q w h (word-sound p s) c) (formed-number own p q w 4294967295 (word-number p s) c))
-
--- for a head of last primary, for another with none, and for another with a session
-module _ (own p q w : ℕ) (h : own < 16) (s : sessionWord p ≡ true) where
-  pub formed-among : has p q ≡ true → eqb w p ≡ (sessionWord w && formedOk own p q w)
-  unfolding formedOk
-  formed-among a = (rw a (or-false (eqb w p))) ∙ formed-test own p q w h s
-
-  pub formed-none : has p q ≡ false → w ≡ 0 → true ≡ (sessionWord w && formedOk own p q w)
-  formed-none o z = sym (formed-usual own p q w (z ∙ rw o)) ∙ formed-test own p q w h s
-
-  pub formed-other : {a b : Bool} {n k : ℕ} → has p q ≡ false → (w ≡ 0 → ⊥) → a ≡ has w own → b ≡ has w q → n ≡ num w → k ≡ num p
-      → (a && b && ltb n k) ≡ (sessionWord w && formedOk own p q w)
-  unfolding formedOk
-  formed-other o u ea eb en ek = rw (ea, eb, en, ek, rank-order w p u) (in-order o u) ∙ formed-test own p q w h s
-    where
-      in-order : has p q ≡ false → (w ≡ 0 → ⊥) → (has w own && has w q && ltb (rank w) (rank p)) ≡ formedOk own p q w
-      in-order o u = rw (o, ne-eqb w 0 u)
 
 -- ---- places
 

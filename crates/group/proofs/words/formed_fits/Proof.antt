@@ -1,12 +1,12 @@
 -- The three cases of the definition, a branch each, with numbers in place of ranks in the last.
 use mathlib.Core.Path.{sym, _∙_}
 use Rattle.loops.proofs.Laws.Truth.{or-false}
 use Rattle.group.specs.Words.{formedOk}
 use Rattle.group.proofs.Laws.Formed.{lower-test}
 use borrow.Author.Tests.{eq-eqb, ne-eqb}
 use borrow.Author.Needs.{needs}
-use Rattle.state.proofs.rules.formed_fits.Statement.{statement}
-use Rattle.state.proofs.rules.formed_fits.Tie as tie
+use Rattle.group.proofs.words.formed_fits.Statement.{statement}
+use Rattle.group.proofs.words.formed_fits.Tie as tie
 
 has-head-requires : tie.Need-has-head-requires
 has-head-requires c κs = search needs
