@@ -1,142 +1,68 @@
-// Recovery: the four steps that bring a cut record to the one after the done changes.
+// Recovery: the recovered record is made on a copy, and stored where it differs from the cut one.
 use group::Answer;
 use group::Group;
 use group::Refusal;
-use group::words::has_head;
-use group::words::larger;
-use group::words::number_of;
-use group::words::rank_of;
 use record::layout::change_formed;
 use record::layout::change_marks;
 use record::layout::change_number;
 use record::layout::change_place;
+use record::layout::formed_for;
+use record::layout::marks_at;
 use record::layout::number;
 use record::layout::place_at;
-use record::layout::primary;
 use store::Pen;
+use trial::mended;
 use whole::is_whole;
 ghost use mathlib.Core.Path.{_≡_};
-ghost use Prim.Native.Nat.{_<_};
 ghost use lib.ListN.{length};
 ghost use Rattle.store.specs.Desk.{desk};
-ghost use Rattle.store.specs.Program.{stepBy, exec, upTo};
-ghost use Rattle.record.specs.Whole.{whole};
+ghost use Rattle.store.specs.Program.{exec, upTo};
 ghost use Rattle.record.specs.Outcome.{outcome};
-ghost use Rattle.recovery.specs.Recover.{greatest, raiseStep, formedStep, clearStep, wipeStep, mendProgram, mended, recoverSpec};
+ghost use Rattle.recovery.specs.Recover.{recoverSpec};
+ghost use Rattle.mending.specs.Toward.{formedTo, placeTo, marksTo, storeProgram};
 
-// The greatest number in the record.
-fn greatest(rec: &[u64]) -> u64
-    requires { ⌜ length (now rec) ≡ 52 ⌝ }
-    ensures { λ r. ⌜ r ≡ greatest (now (rec .entry)) ⌝ }
-{
-    let mut top = larger(number(rec), number_of(primary(rec)));
-    for i in 0..Group::PLACES {
-        top = larger(top, number_of(place_at(rec, i)));
-    }
-    top
-}
-
-fn raise(rec: &mut [u64], pen: Pen) -> Pen
-    requires { ⌜ length (now rec) ≡ 52 ⌝ }
-    ensures { λ r. ⌜ desk (now (rec .exit)) r ≡ stepBy raiseStep (desk (now (rec .entry)) pen) ⌝ }
-{
-    let top = greatest(rec);
-    change_number(rec, pen, true, top)
-}
-
-fn set_formed(rec: &mut [u64], pen: Pen, q: usize) -> Pen
-    requires { ⌜ (length (now rec) ≡ 52) × (q < 16) ⌝ }
-    ensures { λ r. ⌜ desk (now (rec .exit)) r ≡ stepBy (formedStep q) (desk (now (rec .entry)) pen) ⌝ }
-{
-    let p = primary(rec);
-    let among = has_head(p, q);
-    change_formed(rec, pen, among, q, p)
-}
-
-fn clear_place(rec: &mut [u64], pen: Pen, i: usize) -> Pen
-    requires { ⌜ (length (now rec) ≡ 52) × (i < 16) ⌝ }
-    ensures { λ r. ⌜ desk (now (rec .exit)) r ≡ stepBy (clearStep i) (desk (now (rec .entry)) pen) ⌝ }
-{
-    let past = rank_of(place_at(rec, i)) <= rank_of(primary(rec));
-    change_place(rec, pen, past, i, 0)
-}
-
-fn wipe_marks(rec: &mut [u64], pen: Pen, i: usize) -> Pen
-    requires { ⌜ (length (now rec) ≡ 52) × (i < 16) ⌝ }
-    ensures { λ r. ⌜ desk (now (rec .exit)) r ≡ stepBy (wipeStep i) (desk (now (rec .entry)) pen) ⌝ }
-{
-    let free = place_at(rec, i) == 0;
-    change_marks(rec, pen, free, i, 0)
-}
-
-fn set_all_formed(rec: &mut [u64], pen: Pen) -> Pen
-    requires { ⌜ length (now rec) ≡ 52 ⌝ }
-    ensures { λ r. ⌜ desk (now (rec .exit)) r ≡ exec (upTo 16 formedStep) (desk (now (rec .entry)) pen) ⌝ }
+fn store_formed(rec: &mut [u64], pen: Pen, to: &[u64]) -> Pen
+    requires { ⌜ (length (now rec) ≡ 52) × (length (now to) ≡ 52) ⌝ }
+    ensures { λ r. ⌜ desk (now (rec .exit)) r ≡ exec (upTo 16 (formedTo (now (to .entry)))) (desk (now (rec .entry)) pen) ⌝ }
 {
     let mut p = pen;
     for q in 0..Group::HEADS {
-        p = set_formed(rec, p, q);
+        p = change_formed(rec, p, true, q, formed_for(to, q));
     }
     p
 }
 
-fn clear_places(rec: &mut [u64], pen: Pen) -> Pen
-    requires { ⌜ length (now rec) ≡ 52 ⌝ }
-    ensures { λ r. ⌜ desk (now (rec .exit)) r ≡ exec (upTo 16 clearStep) (desk (now (rec .entry)) pen) ⌝ }
+fn store_places(rec: &mut [u64], pen: Pen, to: &[u64]) -> Pen
+    requires { ⌜ (length (now rec) ≡ 52) × (length (now to) ≡ 52) ⌝ }
+    ensures { λ r. ⌜ desk (now (rec .exit)) r ≡ exec (upTo 16 (placeTo (now (to .entry)))) (desk (now (rec .entry)) pen) ⌝ }
 {
     let mut p = pen;
     for i in 0..Group::PLACES {
-        p = clear_place(rec, p, i);
+        p = change_place(rec, p, true, i, place_at(to, i));
     }
     p
 }
 
-fn wipe_all_marks(rec: &mut [u64], pen: Pen) -> Pen
-    requires { ⌜ length (now rec) ≡ 52 ⌝ }
-    ensures { λ r. ⌜ desk (now (rec .exit)) r ≡ exec (upTo 16 wipeStep) (desk (now (rec .entry)) pen) ⌝ }
+fn store_marks(rec: &mut [u64], pen: Pen, to: &[u64]) -> Pen
+    requires { ⌜ (length (now rec) ≡ 52) × (length (now to) ≡ 52) ⌝ }
+    ensures { λ r. ⌜ desk (now (rec .exit)) r ≡ exec (upTo 16 (marksTo (now (to .entry)))) (desk (now (rec .entry)) pen) ⌝ }
 {
     let mut p = pen;
     for i in 0..Group::PLACES {
-        p = wipe_marks(rec, p, i);
+        p = change_marks(rec, p, true, i, marks_at(to, i));
     }
     p
 }
 
-fn mend(rec: &mut [u64], pen: Pen) -> Pen
-    requires { ⌜ length (now rec) ≡ 52 ⌝ }
-    ensures { λ r. ⌜ desk (now (rec .exit)) r ≡ exec mendProgram (desk (now (rec .entry)) pen) ⌝ }
+// Makes the record be `to`, a recovered one, with at most the pen's stores: the words that differ, in the order of the steps.
+fn store_all(rec: &mut [u64], pen: Pen, to: &[u64]) -> Pen
+    requires { ⌜ (length (now rec) ≡ 52) × (length (now to) ≡ 52) ⌝ }
+    ensures { λ r. ⌜ desk (now (rec .exit)) r ≡ exec (storeProgram (now (to .entry))) (desk (now (rec .entry)) pen) ⌝ }
 {
-    let a = raise(rec, pen);
-    let b = set_all_formed(rec, a);
-    let c = clear_places(rec, b);
-    wipe_all_marks(rec, c)
-}
-
-fn copy(rec: &[u64]) -> [u64; Group::WORDS]
-    requires { ⌜ length (now rec) ≡ 52 ⌝ }
-    ensures { λ r. ⌜ r ≡ now (rec .entry) ⌝ }
-{
-    let mut to = [0u64; Group::WORDS];
-    for i in 0..Group::WORDS {
-        to[i] = rec[i];
-    }
-    to
-}
-
-// Whether the record would be whole after the steps: on a copy, with stores enough for every word.
-fn mends(rec: &[u64]) -> bool
-    requires { ⌜ length (now rec) ≡ 52 ⌝ }
-    ensures { λ r. ⌜ r ≡ whole (mended (now (rec .entry))) ⌝ }
-{
-    let mut trial = copy(rec);
-    mend(
-        &mut trial,
-        Pen {
-            left: Group::WORDS as u64,
-            cut: false,
-        },
-    );
-    is_whole(&trial)
+    let a = change_number(rec, pen, true, number(to));
+    let b = store_formed(rec, a, to);
+    let c = store_places(rec, b, to);
+    store_marks(rec, c, to)
 }
 
 // Recovers a record of 52 words, with at most so many stores. One that the steps do not make whole is refused before the first store.
@@ -144,15 +70,17 @@ fn recover_words(rec: &mut [u64], stores: u64) -> Answer
     requires { ⌜ length (now rec) ≡ 52 ⌝ }
     ensures { λ r. ⌜ outcome (now (rec .exit)) r ≡ recoverSpec (now (rec .entry)) stores ⌝ }
 {
-    if !mends(rec) {
+    let to = mended(rec);
+    if !is_whole(&to) {
         return Answer::Refused(Refusal::Record);
     }
-    let pen = mend(
+    let pen = store_all(
         rec,
         Pen {
             left: stores,
             cut: false,
         },
+        &to,
     );
     if pen.cut {
         return Answer::Cut;

@@ -13,7 +13,7 @@ use Rattle.group.specs.Heads.{has}
 use Rattle.group.specs.Words.{rank}
 use Rattle.group.specs.Answers.{Said, cut, recovered, refused}
 use Rattle.store.specs.Desk.{Store, Desk, desk, budget, apply}
-use Rattle.store.specs.Program.{stepBy, exec, script, after, upTo}
+use Rattle.store.specs.Program.{Step, stepBy, exec, script, after, upTo}
 use Rattle.store.proofs.Laws.Put.{diffIf-short}
 use Rattle.store.proofs.Laws.Program.{exec-append, exec-one, exec-take, exec-cuts, script-one, append-short, upTo-short}
 use Rattle.record.specs.Layout.{primary, placeAt, storeNumber, storeFormed, storePlace, storeMarks}
@@ -38,22 +38,18 @@ mend-short r =
     (upTo-short wipeStep (λ i x. diffIf-short (eqb (placeAt x i) 0) (storeMarks i 0) x) 16))) r
 
 -- with a store for every word the steps end
-pub trial-whole : {b : Bool} {d : Desk} {t r : List ℕ} → t ≡ r → d ≡ exec mendProgram (desk t (budget 52)) → b ≡ whole (d .rec) → b ≡ whole (mended r)
+pub trial-mended : {d : Desk} {t r : List ℕ} → t ≡ r → d ≡ exec mendProgram (desk t (budget 52)) → d .rec ≡ mended r
 unfolding mended after
-trial-whole {r = r} e q w =
-    w ∙ ap whole
-    (ap (λ (x : Desk). x .rec) q ∙ ap (λ (l : List ℕ). exec mendProgram (desk l (budget 52)) .rec) e ∙ exec-take mendProgram 52 r
-    ∙ ap (λ (s : List Store). apply s r) (take-all 52 (script mendProgram r) (omega (arith, mend-short r))))
+trial-mended {r = r} e q =
+    ap (λ (x : Desk). x .rec) q ∙ ap (λ (l : List ℕ). exec mendProgram (desk l (budget 52)) .rec) e ∙ exec-take mendProgram 52 r
+    ∙ ap (λ (s : List Store). apply s r) (take-all 52 (script mendProgram r) (omega (arith, mend-short r)))
 
--- the steps one after the other are the program
-pub mend-chain : (d : Desk) {d₁ d₂ d₃ d₄ : Desk} → d₁ ≡ stepBy raiseStep d → d₂ ≡ exec (upTo 16 formedStep) d₁ → d₃ ≡ exec (upTo 16 clearStep) d₂
-    → d₄ ≡ exec (upTo 16 wipeStep) d₃ → d₄ ≡ exec mendProgram d
-unfolding mendProgram
-mend-chain d {d₁} {d₂} p q s t =
-    t ∙ ap (exec (upTo 16 wipeStep)) s ∙ sym (exec-append (upTo 16 clearStep) (upTo 16 wipeStep) d₂)
-    ∙ ap (exec (upTo 16 clearStep ++ upTo 16 wipeStep)) q ∙ sym (exec-append (upTo 16 formedStep) (upTo 16 clearStep ++ upTo 16 wipeStep) d₁)
-    ∙ ap (exec (upTo 16 formedStep ++ (upTo 16 clearStep ++ upTo 16 wipeStep))) (p ∙ sym (exec-one raiseStep d))
-    ∙ sym (exec-append (raiseStep ∷ []) (upTo 16 formedStep ++ (upTo 16 clearStep ++ upTo 16 wipeStep)) d)
+-- a step and three parts, one after the other
+pub parts-chain : (f : Step) (a b c : List Step) (d : Desk) {d₁ d₂ d₃ d₄ : Desk} → d₁ ≡ stepBy f d → d₂ ≡ exec a d₁ → d₃ ≡ exec b d₂ → d₄ ≡ exec c d₃
+    → d₄ ≡ exec (f ∷ (a ++ (b ++ c))) d
+parts-chain f a b c d {d₁} {d₂} p q s t =
+    t ∙ ap (exec c) s ∙ sym (exec-append b c d₂) ∙ ap (exec (b ++ c)) q ∙ sym (exec-append a (b ++ c) d₁) ∙ ap (exec (a ++ (b ++ c))) (p ∙ sym (exec-one f d))
+    ∙ sym (exec-append (f ∷ []) (a ++ (b ++ c)) d)
 
 -- ---- the call
 

@@ -16,13 +16,13 @@ use Rattle.recovery.proofs.Laws.Phases.{phase, phase-keeps, phase-sets,
 
 -- ---- one store beside the others
 
-formed-there : (y : List ℕ) → length y ≡ 52 → (i w : ℕ) → i < 16 → (q : ℕ) → q < 16 → (q ≡ i → ⊥) → formedFor (stored (storeFormed i w) y) q ≡ formedFor y q
+pub formed-there : (y : List ℕ) → length y ≡ 52 → (i w : ℕ) → i < 16 → (q : ℕ) → q < 16 → (q ≡ i → ⊥) → formedFor (stored (storeFormed i w) y) q ≡ formedFor y q
 formed-there y l i w b q h n = formed-stored y l i w b .formed-is q h ∙ changed-there i w (formedFor y) q n
 
-place-there : (y : List ℕ) → length y ≡ 52 → (i w : ℕ) → i < 16 → (j : ℕ) → j < 16 → (j ≡ i → ⊥) → placeAt (stored (storePlace i w) y) j ≡ placeAt y j
+pub place-there : (y : List ℕ) → length y ≡ 52 → (i w : ℕ) → i < 16 → (j : ℕ) → j < 16 → (j ≡ i → ⊥) → placeAt (stored (storePlace i w) y) j ≡ placeAt y j
 place-there y l i w b j h n = place-stored y l i w b .place-is j h ∙ changed-there i w (placeAt y) j n
 
-marks-there : (y : List ℕ) → length y ≡ 52 → (i m : ℕ) → i < 16 → (j : ℕ) → j < 16 → (j ≡ i → ⊥) → marksAt (stored (storeMarks i m) y) j ≡ marksAt y j
+pub marks-there : (y : List ℕ) → length y ≡ 52 → (i m : ℕ) → i < 16 → (j : ℕ) → j < 16 → (j ≡ i → ⊥) → marksAt (stored (storeMarks i m) y) j ≡ marksAt y j
 marks-there y l i m b j h n = marks-stored y l i m b .marks-is j h ∙ changed-there i m (marksAt y) j n
 
 -- ---- last formed: v x for its heads, v being a session that these stores do not change

@@ -30,93 +30,93 @@ mendedMarks r i = cond (eqb (mendedPlace r i) 0) 0 (marksAt r i)
 
 -- ---- what each step makes
 
-formed-made : (q : ℕ) (y : List ℕ) → apply (formedStep q y) y ≡ cond (has (primary y) q) (stored (storeFormed q (primary y)) y) y
+pub formed-made : (q : ℕ) (y : List ℕ) → apply (formedStep q y) y ≡ cond (has (primary y) q) (stored (storeFormed q (primary y)) y) y
 unfolding formedStep
 formed-made q y = apply-diffIf (has (primary y) q) (storeFormed q (primary y)) y
 
-clear-made : (i : ℕ) (y : List ℕ) → apply (clearStep i y) y ≡ cond (leb (rank (placeAt y i)) (rank (primary y))) (stored (storePlace i 0) y) y
+pub clear-made : (i : ℕ) (y : List ℕ) → apply (clearStep i y) y ≡ cond (leb (rank (placeAt y i)) (rank (primary y))) (stored (storePlace i 0) y) y
 unfolding clearStep
 clear-made i y = apply-diffIf (leb (rank (placeAt y i)) (rank (primary y))) (storePlace i 0) y
 
-wipe-made : (i : ℕ) (y : List ℕ) → apply (wipeStep i y) y ≡ cond (eqb (placeAt y i) 0) (stored (storeMarks i 0) y) y
+pub wipe-made : (i : ℕ) (y : List ℕ) → apply (wipeStep i y) y ≡ cond (eqb (placeAt y i) 0) (stored (storeMarks i 0) y) y
 unfolding wipeStep
 wipe-made i y = apply-diffIf (eqb (placeAt y i) 0) (storeMarks i 0) y
 
--- ---- all four
+-- ---- all four, and the record between them
 
 pub mended-length : (r : List ℕ) → length (mended r) ≡ length r
 unfolding mended
 mended-length r = after-length mendProgram r
 
 module _ (r : List ℕ) (long : length r ≡ 52) where
-  r₁ : List ℕ
-  r₁ = apply (raiseStep r) r
+  unfoldable pub raised : List ℕ
+  raised = apply (raiseStep r) r
 
-  r₂ : List ℕ
-  r₂ = phase 16 formedStep r₁
+  unfoldable pub formedSet : List ℕ
+  formedSet = phase 16 formedStep raised
 
-  r₃ : List ℕ
-  r₃ = phase 16 clearStep r₂
+  unfoldable pub placesCleared : List ℕ
+  placesCleared = phase 16 clearStep formedSet
 
-  mended-is : mended r ≡ phase 16 wipeStep r₃
-  unfolding mended mendProgram r₁ r₂ r₃
+  mended-is : mended r ≡ phase 16 wipeStep placesCleared
+  unfolding mended mendProgram raised formedSet placesCleared
   mended-is =
       after-append (raiseStep ∷ []) (upTo 16 formedStep ++ (upTo 16 clearStep ++ upTo 16 wipeStep)) r
       ∙ ap (after (upTo 16 formedStep ++ (upTo 16 clearStep ++ upTo 16 wipeStep))) (after-one raiseStep r)
-      ∙ after-append (upTo 16 formedStep) (upTo 16 clearStep ++ upTo 16 wipeStep) r₁
-      ∙ ap (after (upTo 16 clearStep ++ upTo 16 wipeStep)) (after-phase 16 formedStep r₁)
-      ∙ after-append (upTo 16 clearStep) (upTo 16 wipeStep) r₂
-      ∙ ap (after (upTo 16 wipeStep)) (after-phase 16 clearStep r₂)
-      ∙ after-phase 16 wipeStep r₃
+      ∙ after-append (upTo 16 formedStep) (upTo 16 clearStep ++ upTo 16 wipeStep) raised
+      ∙ ap (after (upTo 16 clearStep ++ upTo 16 wipeStep)) (after-phase 16 formedStep raised)
+      ∙ after-append (upTo 16 clearStep) (upTo 16 wipeStep) formedSet
+      ∙ ap (after (upTo 16 wipeStep)) (after-phase 16 clearStep formedSet)
+      ∙ after-phase 16 wipeStep placesCleared
 
-  long₁ : length r₁ ≡ 52
-  unfolding r₁
-  long₁ = apply-length (raiseStep r) r ∙ long
+  pub raised-length : length raised ≡ 52
+  unfolding raised
+  raised-length = apply-length (raiseStep r) r ∙ long
 
-  long₂ : length r₂ ≡ 52
-  unfolding r₂
-  long₂ = phase-length formedStep r₁ 16 ∙ long₁
+  pub formed-set-length : length formedSet ≡ 52
+  unfolding formedSet
+  formed-set-length = phase-length formedStep raised 16 ∙ raised-length
 
-  long₃ : length r₃ ≡ 52
-  unfolding r₃
-  long₃ = phase-length clearStep r₂ 16 ∙ long₂
+  pub places-cleared-length : length placesCleared ≡ 52
+  unfolding placesCleared
+  places-cleared-length = phase-length clearStep formedSet 16 ∙ formed-set-length
 
-  one : Reads r₁ (settings r) (entered r) (greatest r) (primary r) (formedFor r) (placeAt r) (marksAt r)
-  unfolding r₁ raiseStep
-  one = rw (apply-diffIf _ (storeNumber (greatest r)) r) (number-stored r long (greatest r))
+  pub raised-reads : Reads raised (settings r) (entered r) (greatest r) (primary r) (formedFor r) (placeAt r) (marksAt r)
+  unfolding raised raiseStep
+  raised-reads = rw (apply-diffIf _ (storeNumber (greatest r)) r) (number-stored r long (greatest r))
 
-  two : Reads r₂ (settings r) (entered r) (greatest r) (primary r) (mendedFormed r) (placeAt r) (marksAt r)
-  unfolding r₂
-  two = let f = formed-reads formedStep primary formed-made (λ y l q w h. formed-stored y l q w h .primary-is) r₁ long₁ in record {
-    settings-is = f .settings-is ∙ one .settings-is;
-    entered-is = f .entered-is ∙ one .entered-is;
-    number-is = f .number-is ∙ one .number-is;
-    primary-is = f .primary-is ∙ one .primary-is;
-    formed-is = λ q h. f .formed-is q h ∙ rw (one .primary-is, one .formed-is q h);
-    place-is = λ i h. f .place-is i h ∙ one .place-is i h;
-    marks-is = λ i h. f .marks-is i h ∙ one .marks-is i h;
+  pub formed-set-reads : Reads formedSet (settings r) (entered r) (greatest r) (primary r) (mendedFormed r) (placeAt r) (marksAt r)
+  unfolding formedSet
+  formed-set-reads = let f = formed-reads formedStep primary formed-made (λ y l q w h. formed-stored y l q w h .primary-is) raised raised-length in record {
+    settings-is = f .settings-is ∙ raised-reads .settings-is;
+    entered-is = f .entered-is ∙ raised-reads .entered-is;
+    number-is = f .number-is ∙ raised-reads .number-is;
+    primary-is = f .primary-is ∙ raised-reads .primary-is;
+    formed-is = λ q h. f .formed-is q h ∙ rw (raised-reads .primary-is, raised-reads .formed-is q h);
+    place-is = λ i h. f .place-is i h ∙ raised-reads .place-is i h;
+    marks-is = λ i h. f .marks-is i h ∙ raised-reads .marks-is i h;
   }
 
-  three : Reads r₃ (settings r) (entered r) (greatest r) (primary r) (mendedFormed r) (mendedPlace r) (marksAt r)
-  unfolding r₃
-  three = let c = places-reads clearStep clear-made r₂ long₂ in record {
-    settings-is = c .settings-is ∙ two .settings-is;
-    entered-is = c .entered-is ∙ two .entered-is;
-    number-is = c .number-is ∙ two .number-is;
-    primary-is = c .primary-is ∙ two .primary-is;
-    formed-is = λ q h. c .formed-is q h ∙ two .formed-is q h;
-    place-is = λ i h. c .place-is i h ∙ rw (two .primary-is, two .place-is i h);
-    marks-is = λ i h. c .marks-is i h ∙ two .marks-is i h;
+  pub places-cleared-reads : Reads placesCleared (settings r) (entered r) (greatest r) (primary r) (mendedFormed r) (mendedPlace r) (marksAt r)
+  unfolding placesCleared
+  places-cleared-reads = let c = places-reads clearStep clear-made formedSet formed-set-length in record {
+    settings-is = c .settings-is ∙ formed-set-reads .settings-is;
+    entered-is = c .entered-is ∙ formed-set-reads .entered-is;
+    number-is = c .number-is ∙ formed-set-reads .number-is;
+    primary-is = c .primary-is ∙ formed-set-reads .primary-is;
+    formed-is = λ q h. c .formed-is q h ∙ formed-set-reads .formed-is q h;
+    place-is = λ i h. c .place-is i h ∙ rw (formed-set-reads .primary-is, formed-set-reads .place-is i h);
+    marks-is = λ i h. c .marks-is i h ∙ formed-set-reads .marks-is i h;
   }
 
   -- THE RECOVERED RECORD
   pub mended-reads : Reads (mended r) (settings r) (entered r) (greatest r) (primary r) (mendedFormed r) (mendedPlace r) (mendedMarks r)
-  mended-reads = let w = marks-reads wipeStep wipe-made r₃ long₃ in rw mended-is record {
-    settings-is = w .settings-is ∙ three .settings-is;
-    entered-is = w .entered-is ∙ three .entered-is;
-    number-is = w .number-is ∙ three .number-is;
-    primary-is = w .primary-is ∙ three .primary-is;
-    formed-is = λ q h. w .formed-is q h ∙ three .formed-is q h;
-    place-is = λ i h. w .place-is i h ∙ three .place-is i h;
-    marks-is = λ i h. w .marks-is i h ∙ rw (three .place-is i h, three .marks-is i h);
+  mended-reads = let w = marks-reads wipeStep wipe-made placesCleared places-cleared-length in rw mended-is record {
+    settings-is = w .settings-is ∙ places-cleared-reads .settings-is;
+    entered-is = w .entered-is ∙ places-cleared-reads .entered-is;
+    number-is = w .number-is ∙ places-cleared-reads .number-is;
+    primary-is = w .primary-is ∙ places-cleared-reads .primary-is;
+    formed-is = λ q h. w .formed-is q h ∙ places-cleared-reads .formed-is q h;
+    place-is = λ i h. w .place-is i h ∙ places-cleared-reads .place-is i h;
+    marks-is = λ i h. w .marks-is i h ∙ rw (places-cleared-reads .place-is i h, places-cleared-reads .marks-is i h);
   }

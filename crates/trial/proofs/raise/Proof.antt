@@ -3,8 +3,8 @@ use mathlib.Core.Path.{refl, _∙_}
 use Rattle.store.specs.Program.{stepBy}
 use Rattle.recovery.specs.Recover.{raiseStep}
 use borrow.Author.Needs.{needs}
-use Rattle.mending.proofs.raise.Statement.{statement}
-use Rattle.mending.proofs.raise.Tie as tie
+use Rattle.trial.proofs.raise.Statement.{statement}
+use Rattle.trial.proofs.raise.Tie as tie
 
 greatest-requires : tie.Need-greatest-requires
 greatest-requires c κs = search needs

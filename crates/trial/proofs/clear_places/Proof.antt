@@ -7,8 +7,8 @@ use Rattle.store.specs.Desk.{desk}
 use Rattle.store.specs.Program.{exec, upTo}
 use Rattle.store.proofs.Laws.Program.{steps-start, steps-again, steps-done}
 use Rattle.recovery.specs.Recover.{clearStep}
-use Rattle.mending.proofs.clear_places.Statement.{statement}
-use Rattle.mending.proofs.clear_places.Tie as tie
+use Rattle.trial.proofs.clear_places.Statement.{statement}
+use Rattle.trial.proofs.clear_places.Tie as tie
 
 abbrev Inv-loop : tie.InvT-loop
 Inv-loop rec₀ p₀ i₀ rec p i = (i ≤ 16) × (length rec ≡ 52) × (desk rec p ≡ exec (upTo i clearStep) (desk rec₀ p₀))

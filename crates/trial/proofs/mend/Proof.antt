@@ -1,8 +1,10 @@
 -- The four parts, one after the other, are the program.
-use Rattle.recovery.proofs.Laws.Call.{mend-chain}
+use Rattle.store.specs.Program.{upTo}
+use Rattle.recovery.specs.Recover.{raiseStep, formedStep, clearStep, wipeStep, mendProgram}
+use Rattle.recovery.proofs.Laws.Call.{parts-chain}
 use borrow.Author.Needs.{needs}
-use Rattle.mending.proofs.mend.Statement.{statement}
-use Rattle.mending.proofs.mend.Tie as tie
+use Rattle.trial.proofs.mend.Statement.{statement}
+use Rattle.trial.proofs.mend.Tie as tie
 
 raise-requires : tie.Need-raise-requires
 raise-requires c κs = search needs
@@ -20,7 +22,8 @@ same-length : tie.Need-same-length
 same-length c = search needs
 
 returns : tie.Need-returns
-returns c = mend-chain _ (c .before .before .before .before .before .before .before .before .before .before .before .before .before .before .raise .ensures) (c .before .before .before .before .before .before .before .before .before .before .set-all-formed .ensures) (c .before .before .before .before .before .before .clear-places .ensures) (c .before .before .wipe-all-marks .ensures)
+unfolding mendProgram
+returns c = parts-chain raiseStep (upTo 16 formedStep) (upTo 16 clearStep) (upTo 16 wipeStep) _ (c .before .before .before .before .before .before .before .before .before .before .before .before .before .before .raise .ensures) (c .before .before .before .before .before .before .before .before .before .before .set-all-formed .ensures) (c .before .before .before .before .before .before .clear-places .ensures) (c .before .before .wipe-all-marks .ensures)
 
 pub mend-spec : {M : Type 1} → statement M
 mend-spec =

@@ -3,8 +3,8 @@ use mathlib.Core.Path.{refl, _∙_}
 use Rattle.store.specs.Program.{stepBy}
 use Rattle.recovery.specs.Recover.{wipeStep}
 use borrow.Author.Needs.{needs}
-use Rattle.mending.proofs.wipe_marks.Statement.{statement}
-use Rattle.mending.proofs.wipe_marks.Tie as tie
+use Rattle.trial.proofs.wipe_marks.Statement.{statement}
+use Rattle.trial.proofs.wipe_marks.Tie as tie
 
 place-at-requires : tie.Need-place-at-requires
 place-at-requires c κs = search needs

@@ -7,8 +7,8 @@ use Rattle.store.specs.Desk.{desk}
 use Rattle.store.specs.Program.{exec, upTo}
 use Rattle.store.proofs.Laws.Program.{steps-start, steps-again, steps-done}
 use Rattle.recovery.specs.Recover.{formedStep}
-use Rattle.mending.proofs.set_all_formed.Statement.{statement}
-use Rattle.mending.proofs.set_all_formed.Tie as tie
+use Rattle.trial.proofs.set_all_formed.Statement.{statement}
+use Rattle.trial.proofs.set_all_formed.Tie as tie
 
 abbrev Inv-loop : tie.InvT-loop
 Inv-loop rec₀ p₀ q₀ rec p q = (q ≤ 16) × (length rec ≡ 52) × (desk rec p ≡ exec (upTo q formedStep) (desk rec₀ p₀))

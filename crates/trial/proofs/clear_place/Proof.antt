@@ -3,8 +3,8 @@ use mathlib.Core.Path.{refl, _∙_}
 use Rattle.store.specs.Program.{stepBy}
 use Rattle.recovery.specs.Recover.{clearStep}
 use borrow.Author.Needs.{needs}
-use Rattle.mending.proofs.clear_place.Statement.{statement}
-use Rattle.mending.proofs.clear_place.Tie as tie
+use Rattle.trial.proofs.clear_place.Statement.{statement}
+use Rattle.trial.proofs.clear_place.Tie as tie
 
 place-at-requires : tie.Need-place-at-requires
 place-at-requires c κs = search needs

@@ -3,8 +3,8 @@ use mathlib.Core.Path.{refl, _∙_}
 use Rattle.store.specs.Program.{stepBy}
 use Rattle.recovery.specs.Recover.{formedStep}
 use borrow.Author.Needs.{needs}
-use Rattle.mending.proofs.set_formed.Statement.{statement}
-use Rattle.mending.proofs.set_formed.Tie as tie
+use Rattle.trial.proofs.set_formed.Statement.{statement}
+use Rattle.trial.proofs.set_formed.Tie as tie
 
 primary-requires : tie.Need-primary-requires
 primary-requires c κs = search needs
