@@ -2,67 +2,28 @@
 use group::Answer;
 use group::Group;
 use group::Refusal;
-use record::layout::change_formed;
-use record::layout::change_marks;
-use record::layout::change_number;
-use record::layout::change_place;
-use record::layout::formed_for;
-use record::layout::marks_at;
-use record::layout::number;
-use record::layout::place_at;
 use store::Pen;
+use store::change;
 use trial::mended;
 use whole::is_whole;
 ghost use mathlib.Core.Path.{_≡_};
 ghost use lib.ListN.{length};
 ghost use Rattle.store.specs.Desk.{desk};
-ghost use Rattle.store.specs.Program.{exec, upTo};
+ghost use Rattle.store.specs.Program.{exec};
 ghost use Rattle.record.specs.Outcome.{outcome};
 ghost use Rattle.recovery.specs.Recover.{recoverSpec};
-ghost use Rattle.mending.specs.Toward.{formedTo, placeTo, marksTo, storeProgram};
+ghost use Rattle.mending.specs.Toward.{storeProgram};
 
-fn store_formed(rec: &mut [u64], pen: Pen, to: &[u64]) -> Pen
-    requires { ⌜ (length (now rec) ≡ 52) × (length (now to) ≡ 52) ⌝ }
-    ensures { λ r. ⌜ desk (now (rec .exit)) r ≡ exec (upTo 16 (formedTo (now (to .entry)))) (desk (now (rec .entry)) pen) ⌝ }
-{
-    let mut p = pen;
-    for q in 0..Group::HEADS {
-        p = change_formed(rec, p, true, q, formed_for(to, q));
-    }
-    p
-}
-
-fn store_places(rec: &mut [u64], pen: Pen, to: &[u64]) -> Pen
-    requires { ⌜ (length (now rec) ≡ 52) × (length (now to) ≡ 52) ⌝ }
-    ensures { λ r. ⌜ desk (now (rec .exit)) r ≡ exec (upTo 16 (placeTo (now (to .entry)))) (desk (now (rec .entry)) pen) ⌝ }
-{
-    let mut p = pen;
-    for i in 0..Group::PLACES {
-        p = change_place(rec, p, true, i, place_at(to, i));
-    }
-    p
-}
-
-fn store_marks(rec: &mut [u64], pen: Pen, to: &[u64]) -> Pen
-    requires { ⌜ (length (now rec) ≡ 52) × (length (now to) ≡ 52) ⌝ }
-    ensures { λ r. ⌜ desk (now (rec .exit)) r ≡ exec (upTo 16 (marksTo (now (to .entry)))) (desk (now (rec .entry)) pen) ⌝ }
-{
-    let mut p = pen;
-    for i in 0..Group::PLACES {
-        p = change_marks(rec, p, true, i, marks_at(to, i));
-    }
-    p
-}
-
-// Makes the record be `to`, a recovered one, with at most the pen's stores: the words that differ, in the order of the steps.
+// Makes the record be `to`, with at most the pen's stores: the words that differ, in order.
 fn store_all(rec: &mut [u64], pen: Pen, to: &[u64]) -> Pen
     requires { ⌜ (length (now rec) ≡ 52) × (length (now to) ≡ 52) ⌝ }
     ensures { λ r. ⌜ desk (now (rec .exit)) r ≡ exec (storeProgram (now (to .entry))) (desk (now (rec .entry)) pen) ⌝ }
 {
-    let a = change_number(rec, pen, true, number(to));
-    let b = store_formed(rec, a, to);
-    let c = store_places(rec, b, to);
-    store_marks(rec, c, to)
+    let mut p = pen;
+    for k in 0..Group::WORDS {
+        p = change(rec, p, true, k, to[k]);
+    }
+    p
 }
 
 // Recovers a record of 52 words, with at most so many stores. One that the steps do not make whole is refused before the first store.

@@ -7,7 +7,7 @@ use store::put_if;
 ghost use mathlib.Core.Path.{_≡_};
 ghost use Prim.Native.Nat.{_<_};
 ghost use lib.ListN.{length};
-ghost use Rattle.store.specs.Desk.{desk, putTo, run, storeIf, diffIf};
+ghost use Rattle.store.specs.Desk.{desk, stored, putTo, run, storeIf, diffIf};
 ghost use Rattle.record.specs.Layout.{settings, core, least, own, entered, number, primary, formedFor, placeAt, marksAt};
 ghost use Rattle.record.specs.Layout.{storeEntered, storeNumber, storePrimary, storeFormed, storePlace, storeMarks};
 
@@ -149,30 +149,38 @@ pub fn put_marks_if(rec: &mut [u64], pen: Pen, asked: bool, i: usize, m: u64) ->
 }
 
 // Where asked, stores only a word that changes.
-pub fn change_number(rec: &mut [u64], pen: Pen, asked: bool, n: u64) -> Pen
-    requires { ⌜ length (now rec) ≡ 52 ⌝ }
-    ensures { λ r. ⌜ desk (now (rec .exit)) r ≡ run (diffIf asked (storeNumber n) (now (rec .entry))) (desk (now (rec .entry)) pen) ⌝ }
-{
-    change(rec, pen, asked, 2, n)
-}
-
-pub fn change_formed(rec: &mut [u64], pen: Pen, asked: bool, q: usize, w: u64) -> Pen
-    requires { ⌜ (length (now rec) ≡ 52) × (q < 16) ⌝ }
-    ensures { λ r. ⌜ desk (now (rec .exit)) r ≡ run (diffIf asked (storeFormed q w) (now (rec .entry))) (desk (now (rec .entry)) pen) ⌝ }
-{
-    change(rec, pen, asked, 4 + q, w)
-}
-
-pub fn change_place(rec: &mut [u64], pen: Pen, asked: bool, i: usize, w: u64) -> Pen
-    requires { ⌜ (length (now rec) ≡ 52) × (i < 16) ⌝ }
-    ensures { λ r. ⌜ desk (now (rec .exit)) r ≡ run (diffIf asked (storePlace i w) (now (rec .entry))) (desk (now (rec .entry)) pen) ⌝ }
-{
-    change(rec, pen, asked, 20 + i, w)
-}
-
 pub fn change_marks(rec: &mut [u64], pen: Pen, asked: bool, i: usize, m: u64) -> Pen
     requires { ⌜ (length (now rec) ≡ 52) × (i < 16) ⌝ }
     ensures { λ r. ⌜ desk (now (rec .exit)) r ≡ run (diffIf asked (storeMarks i m) (now (rec .entry))) (desk (now (rec .entry)) pen) ⌝ }
 {
     change(rec, pen, asked, 36 + i, m)
+}
+
+// Sets a word with no pen, in a copy.
+pub fn set_number(to: &mut [u64], n: u64)
+    requires { ⌜ length (now to) ≡ 52 ⌝ }
+    ensures { λ r. ⌜ now (to .exit) ≡ stored (storeNumber n) (now (to .entry)) ⌝ }
+{
+    to[2] = n;
+}
+
+pub fn set_formed(to: &mut [u64], q: usize, w: u64)
+    requires { ⌜ (length (now to) ≡ 52) × (q < 16) ⌝ }
+    ensures { λ r. ⌜ now (to .exit) ≡ stored (storeFormed q w) (now (to .entry)) ⌝ }
+{
+    to[4 + q] = w;
+}
+
+pub fn set_place(to: &mut [u64], i: usize, w: u64)
+    requires { ⌜ (length (now to) ≡ 52) × (i < 16) ⌝ }
+    ensures { λ r. ⌜ now (to .exit) ≡ stored (storePlace i w) (now (to .entry)) ⌝ }
+{
+    to[20 + i] = w;
+}
+
+pub fn set_marks(to: &mut [u64], i: usize, m: u64)
+    requires { ⌜ (length (now to) ≡ 52) × (i < 16) ⌝ }
+    ensures { λ r. ⌜ now (to .exit) ≡ stored (storeMarks i m) (now (to .entry)) ⌝ }
+{
+    to[36 + i] = m;
 }

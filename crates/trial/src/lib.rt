@@ -4,20 +4,19 @@ use group::words::has_head;
 use group::words::larger;
 use group::words::number_of;
 use group::words::rank_of;
-use record::layout::change_formed;
-use record::layout::change_marks;
-use record::layout::change_number;
-use record::layout::change_place;
 use record::layout::number;
 use record::layout::place_at;
 use record::layout::primary;
-use store::Pen;
+use record::layout::set_formed;
+use record::layout::set_marks;
+use record::layout::set_number;
+use record::layout::set_place;
 ghost use mathlib.Core.Path.{_≡_};
 ghost use Prim.Native.Nat.{_<_};
 ghost use lib.ListN.{length};
-ghost use Rattle.store.specs.Desk.{desk};
-ghost use Rattle.store.specs.Program.{stepBy, exec, upTo};
-ghost use Rattle.recovery.specs.Recover.{greatest, raiseStep, formedStep, clearStep, wipeStep, mendProgram, mended};
+ghost use Rattle.store.specs.Desk.{apply};
+ghost use Rattle.store.specs.Program.{after, upTo};
+ghost use Rattle.recovery.specs.Recover.{greatest, formedStep, clearStep, wipeStep, mended};
 
 // The greatest number in the record.
 fn greatest(rec: &[u64]) -> u64
@@ -31,80 +30,59 @@ fn greatest(rec: &[u64]) -> u64
     top
 }
 
-fn raise(rec: &mut [u64], pen: Pen) -> Pen
-    requires { ⌜ length (now rec) ≡ 52 ⌝ }
-    ensures { λ r. ⌜ desk (now (rec .exit)) r ≡ stepBy raiseStep (desk (now (rec .entry)) pen) ⌝ }
+fn form_one(to: &mut [u64], q: usize)
+    requires { ⌜ (length (now to) ≡ 52) × (q < 16) ⌝ }
+    ensures { λ r. ⌜ now (to .exit) ≡ apply (formedStep q (now (to .entry))) (now (to .entry)) ⌝ }
 {
-    let top = greatest(rec);
-    change_number(rec, pen, true, top)
+    let p = primary(to);
+    if has_head(p, q) {
+        set_formed(to, q, p);
+    }
 }
 
-fn set_formed(rec: &mut [u64], pen: Pen, q: usize) -> Pen
-    requires { ⌜ (length (now rec) ≡ 52) × (q < 16) ⌝ }
-    ensures { λ r. ⌜ desk (now (rec .exit)) r ≡ stepBy (formedStep q) (desk (now (rec .entry)) pen) ⌝ }
+fn clear_one(to: &mut [u64], i: usize)
+    requires { ⌜ (length (now to) ≡ 52) × (i < 16) ⌝ }
+    ensures { λ r. ⌜ now (to .exit) ≡ apply (clearStep i (now (to .entry))) (now (to .entry)) ⌝ }
 {
-    let p = primary(rec);
-    let among = has_head(p, q);
-    change_formed(rec, pen, among, q, p)
+    if rank_of(place_at(to, i)) <= rank_of(primary(to)) {
+        set_place(to, i, 0);
+    }
 }
 
-fn clear_place(rec: &mut [u64], pen: Pen, i: usize) -> Pen
-    requires { ⌜ (length (now rec) ≡ 52) × (i < 16) ⌝ }
-    ensures { λ r. ⌜ desk (now (rec .exit)) r ≡ stepBy (clearStep i) (desk (now (rec .entry)) pen) ⌝ }
+fn wipe_one(to: &mut [u64], i: usize)
+    requires { ⌜ (length (now to) ≡ 52) × (i < 16) ⌝ }
+    ensures { λ r. ⌜ now (to .exit) ≡ apply (wipeStep i (now (to .entry))) (now (to .entry)) ⌝ }
 {
-    let past = rank_of(place_at(rec, i)) <= rank_of(primary(rec));
-    change_place(rec, pen, past, i, 0)
+    if place_at(to, i) == 0 {
+        set_marks(to, i, 0);
+    }
 }
 
-fn wipe_marks(rec: &mut [u64], pen: Pen, i: usize) -> Pen
-    requires { ⌜ (length (now rec) ≡ 52) × (i < 16) ⌝ }
-    ensures { λ r. ⌜ desk (now (rec .exit)) r ≡ stepBy (wipeStep i) (desk (now (rec .entry)) pen) ⌝ }
+fn form_all(to: &mut [u64])
+    requires { ⌜ length (now to) ≡ 52 ⌝ }
+    ensures { λ r. ⌜ now (to .exit) ≡ after (upTo 16 formedStep) (now (to .entry)) ⌝ }
 {
-    let free = place_at(rec, i) == 0;
-    change_marks(rec, pen, free, i, 0)
-}
-
-fn set_all_formed(rec: &mut [u64], pen: Pen) -> Pen
-    requires { ⌜ length (now rec) ≡ 52 ⌝ }
-    ensures { λ r. ⌜ desk (now (rec .exit)) r ≡ exec (upTo 16 formedStep) (desk (now (rec .entry)) pen) ⌝ }
-{
-    let mut p = pen;
     for q in 0..Group::HEADS {
-        p = set_formed(rec, p, q);
+        form_one(to, q);
     }
-    p
 }
 
-fn clear_places(rec: &mut [u64], pen: Pen) -> Pen
-    requires { ⌜ length (now rec) ≡ 52 ⌝ }
-    ensures { λ r. ⌜ desk (now (rec .exit)) r ≡ exec (upTo 16 clearStep) (desk (now (rec .entry)) pen) ⌝ }
+fn clear_all(to: &mut [u64])
+    requires { ⌜ length (now to) ≡ 52 ⌝ }
+    ensures { λ r. ⌜ now (to .exit) ≡ after (upTo 16 clearStep) (now (to .entry)) ⌝ }
 {
-    let mut p = pen;
     for i in 0..Group::PLACES {
-        p = clear_place(rec, p, i);
+        clear_one(to, i);
     }
-    p
 }
 
-fn wipe_all_marks(rec: &mut [u64], pen: Pen) -> Pen
-    requires { ⌜ length (now rec) ≡ 52 ⌝ }
-    ensures { λ r. ⌜ desk (now (rec .exit)) r ≡ exec (upTo 16 wipeStep) (desk (now (rec .entry)) pen) ⌝ }
+fn wipe_all(to: &mut [u64])
+    requires { ⌜ length (now to) ≡ 52 ⌝ }
+    ensures { λ r. ⌜ now (to .exit) ≡ after (upTo 16 wipeStep) (now (to .entry)) ⌝ }
 {
-    let mut p = pen;
     for i in 0..Group::PLACES {
-        p = wipe_marks(rec, p, i);
+        wipe_one(to, i);
     }
-    p
-}
-
-fn mend(rec: &mut [u64], pen: Pen) -> Pen
-    requires { ⌜ length (now rec) ≡ 52 ⌝ }
-    ensures { λ r. ⌜ desk (now (rec .exit)) r ≡ exec mendProgram (desk (now (rec .entry)) pen) ⌝ }
-{
-    let a = raise(rec, pen);
-    let b = set_all_formed(rec, a);
-    let c = clear_places(rec, b);
-    wipe_all_marks(rec, c)
 }
 
 fn copy(rec: &[u64]) -> [u64; Group::WORDS]
@@ -118,18 +96,16 @@ fn copy(rec: &[u64]) -> [u64; Group::WORDS]
     to
 }
 
-// The record after the steps: on a copy, with stores enough for every word.
+// The record after the steps.
 pub fn mended(rec: &[u64]) -> [u64; Group::WORDS]
     requires { ⌜ length (now rec) ≡ 52 ⌝ }
     ensures { λ r. ⌜ r ≡ mended (now (rec .entry)) ⌝ }
 {
+    let top = greatest(rec);
     let mut to = copy(rec);
-    mend(
-        &mut to,
-        Pen {
-            left: Group::WORDS as u64,
-            cut: false,
-        },
-    );
+    set_number(&mut to, top);
+    form_all(&mut to);
+    clear_all(&mut to);
+    wipe_all(&mut to);
     to
 }

@@ -1,42 +1,62 @@
--- The number and the three kinds of word, one after the other, are the program.
-use Rattle.store.specs.Program.{stepBy, upTo}
-use Rattle.recovery.proofs.Laws.Call.{parts-chain}
-use Rattle.mending.specs.Toward.{numberTo, formedTo, placeTo, marksTo, storeProgram}
-use mathlib.Core.Path.{refl, _∙_}
-use borrow.Author.Needs.{needs}
+-- At each turn the record and the pen are those after the words passed.
+use native.Mathlib.Omega.{arith}
+use Prim.Native.Nat.{_≤_, _-_}
+use mathlib.Core.Path.{_≡_, sym, _∙_}
+use lib.ListN.{length}
+use Rattle.store.specs.Desk.{desk}
+use Rattle.store.specs.Program.{stepBy, exec, upTo}
+use Rattle.store.proofs.Laws.Program.{steps-start, steps-again, steps-done}
+use Rattle.mending.specs.Toward.{wordTo, storeProgram}
 use Rattle.mending.proofs.store_all.Statement.{statement}
 use Rattle.mending.proofs.store_all.Tie as tie
 
-number-requires : tie.Need-number-requires
-number-requires c κs = search needs
+abbrev Inv-loop : tie.InvT-loop
+Inv-loop rec₀ to p₀ k₀ rec p k = (k ≤ 52) × (length rec ≡ 52) × (desk rec p ≡ exec (upTo k (wordTo to)) (desk rec₀ p₀))
 
-change-number-requires : tie.Need-change-number-requires
-change-number-requires c κs = search needs
+abbrev μ-loop : tie.MeasureT-loop
+μ-loop rec₀ to p₀ k₀ rec p k = 52 - k
 
-store-formed-requires : tie.Need-store-formed-requires
-store-formed-requires c κs = search needs
+loop-holds : tie.Need-loop-holds Inv-loop μ-loop
+loop-holds c = (omega arith, c .before .before .pre .0, steps-start (wordTo _) _)
 
-store-places-requires : tie.Need-store-places-requires
-store-places-requires c κs = search needs
+mul-change : tie.Need-mul-change Inv-loop μ-loop
+mul-change c = omega arith
 
-store-marks-requires : tie.Need-store-marks-requires
-store-marks-requires c κs = search needs
+shared-slice-read-change : tie.Need-shared-slice-read-change Inv-loop μ-loop
+shared-slice-read-change c = omega (arith, c .before .before .before .before .before .before .pre .1)
 
-same-length : tie.Need-same-length
-same-length c = search needs
+change-requires : tie.Need-change-requires Inv-loop μ-loop
+change-requires c κs = omega (arith, c .before .before .before .loop .inv .1)
 
-returns : tie.Need-returns
-unfolding storeProgram stepBy numberTo
-returns c = parts-chain (numberTo _) (upTo 16 (formedTo _)) (upTo 16 (placeTo _)) (upTo 16 (marksTo _)) _ (c .before .before .before .before .before .before .before .before .before .before .before .before .before .before .change-number .ensures ∙ rw (c .before .before .before .before .before .before .before .before .before .before .before .before .before .before .before .number .ensures) refl) (c .before .before .before .before .before .before .before .before .before .before .store-formed .ensures) (c .before .before .before .before .before .before .store-places .ensures) (c .before .before .store-marks .ensures)
+add-k : tie.Need-add-k Inv-loop μ-loop
+add-k c = omega arith
+
+loop-less : tie.Need-loop-less Inv-loop μ-loop
+loop-less c = omega arith
+
+loop-again : tie.Need-loop-again Inv-loop μ-loop
+unfolding stepBy wordTo
+loop-again c = (omega arith, c .before .before .change .kept .0 ∙ c .before .before .before .before .before .before .loop .inv .1, steps-again (wordTo (c .before .before .before .before .before .before .before .before .before .args .to .now)) (desk (c .before .before .before .before .before .before .before .before .before .args .rec .now) (c .before .before .before .before .before .before .before .before .before .args .pen)) _ (c .before .before .before .before .before .before .loop .inv .2) (c .before .before .change .ensures))
+
+same-length : tie.Need-same-length Inv-loop μ-loop
+same-length c = c .before .loop .inv .1 ∙ sym (c .before .before .before .before .pre .0)
+
+returns : tie.Need-returns Inv-loop μ-loop
+unfolding storeProgram
+returns c = c .before .loop .inv .2 ∙ steps-done (wordTo _) _ _ _ (c .before .loop .inv .0) (c .loop-test .left)
 
 pub store-all-spec : {M : Type 1} → statement M
 store-all-spec =
     tie.close
     (tie.spec
-    number-requires
-    change-number-requires
-    store-formed-requires
-    store-places-requires
-    store-marks-requires
+    Inv-loop
+    μ-loop
+    loop-holds
+    mul-change
+    shared-slice-read-change
+    change-requires
+    add-k
+    loop-less
+    loop-again
     same-length
     returns)

@@ -13,9 +13,9 @@ use Rattle.group.specs.Heads.{has}
 use Rattle.group.specs.Words.{rank}
 use Rattle.group.specs.Answers.{Said, cut, recovered, refused}
 use Rattle.store.specs.Desk.{Store, Desk, desk, budget, apply}
-use Rattle.store.specs.Program.{Step, stepBy, exec, script, after, upTo}
+use Rattle.store.specs.Program.{exec, script, after, upTo}
 use Rattle.store.proofs.Laws.Put.{diffIf-short}
-use Rattle.store.proofs.Laws.Program.{exec-append, exec-one, exec-take, exec-cuts, script-one, append-short, upTo-short}
+use Rattle.store.proofs.Laws.Program.{exec-take, exec-cuts, script-one, append-short, upTo-short}
 use Rattle.record.specs.Layout.{primary, placeAt, storeNumber, storeFormed, storePlace, storeMarks}
 use Rattle.record.specs.Whole.{whole}
 use Rattle.record.specs.Outcome.{Outcome}
@@ -23,7 +23,7 @@ use Rattle.record.proofs.Laws.Outcome.{one-outcome}
 use Rattle.recovery.specs.Recover.{greatest, raiseStep, formedStep, clearStep, wipeStep, mendProgram, mended, mendable, recoverSpec}
 use Rattle.recovery.specs.Statements.{EndsRecovered, Determined}
 
--- ---- the trial
+-- ---- how many stores
 
 -- each step stores one word at most
 pub mend-short : (r : List ℕ) → length (script mendProgram r) ≤ 49
@@ -36,20 +36,6 @@ mend-short r =
     (append-short (upTo 16 clearStep) (upTo 16 wipeStep) 16 16
     (upTo-short clearStep (λ i x. diffIf-short (leb (rank (placeAt x i)) (rank (primary x))) (storePlace i 0) x) 16)
     (upTo-short wipeStep (λ i x. diffIf-short (eqb (placeAt x i) 0) (storeMarks i 0) x) 16))) r
-
--- with a store for every word the steps end
-pub trial-mended : {d : Desk} {t r : List ℕ} → t ≡ r → d ≡ exec mendProgram (desk t (budget 52)) → d .rec ≡ mended r
-unfolding mended after
-trial-mended {r = r} e q =
-    ap (λ (x : Desk). x .rec) q ∙ ap (λ (l : List ℕ). exec mendProgram (desk l (budget 52)) .rec) e ∙ exec-take mendProgram 52 r
-    ∙ ap (λ (s : List Store). apply s r) (take-all 52 (script mendProgram r) (omega (arith, mend-short r)))
-
--- a step and three parts, one after the other
-pub parts-chain : (f : Step) (a b c : List Step) (d : Desk) {d₁ d₂ d₃ d₄ : Desk} → d₁ ≡ stepBy f d → d₂ ≡ exec a d₁ → d₃ ≡ exec b d₂ → d₄ ≡ exec c d₃
-    → d₄ ≡ exec (f ∷ (a ++ (b ++ c))) d
-parts-chain f a b c d {d₁} {d₂} p q s t =
-    t ∙ ap (exec c) s ∙ sym (exec-append b c d₂) ∙ ap (exec (b ++ c)) q ∙ sym (exec-append a (b ++ c) d₁) ∙ ap (exec (a ++ (b ++ c))) (p ∙ sym (exec-one f d))
-    ∙ sym (exec-append (f ∷ []) (a ++ (b ++ c)) d)
 
 -- ---- the call
 

@@ -1,6 +1,6 @@
 -- The recovered record, field by field. Each of the four steps stores one kind of field, and reads only fields that it leaves, or its own before it stores it.
 use mathlib.Core.Bool.{cond}
-use mathlib.Core.Path.{_≡_, ap, _∙_}
+use mathlib.Core.Path.{_≡_, refl, ap, _∙_}
 use mathlib.Core.List.{List, [], _∷_, _++_}
 use Prim.Native.Nat.{ℕ}
 use lib.Dec.{eqb, leb}
@@ -8,7 +8,7 @@ use lib.ListN.{length}
 use Rattle.group.specs.Heads.{has}
 use Rattle.group.specs.Words.{rank}
 use Rattle.store.specs.Desk.{stored, apply}
-use Rattle.store.specs.Program.{after, upTo}
+use Rattle.store.specs.Program.{Step, after, upTo}
 use Rattle.store.proofs.Laws.Put.{apply-diffIf}
 use Rattle.store.proofs.Laws.Script.{apply-length}
 use Rattle.store.proofs.Laws.Program.{after-append, after-one, after-length}
@@ -44,6 +44,12 @@ wipe-made i y = apply-diffIf (eqb (placeAt y i) 0) (storeMarks i 0) y
 
 -- ---- all four, and the record between them
 
+-- what a step and three parts leave, one after the other
+pub after-parts : (f : Step) (a b c : List Step) (r : List ℕ) → after (f ∷ (a ++ (b ++ c))) r ≡ after c (after b (after a (apply (f r) r)))
+after-parts f a b c r =
+    after-append (f ∷ []) (a ++ (b ++ c)) r ∙ ap (after (a ++ (b ++ c))) (after-one f r) ∙ after-append a (b ++ c) (apply (f r) r)
+    ∙ after-append b c (after a (apply (f r) r))
+
 pub mended-length : (r : List ℕ) → length (mended r) ≡ length r
 unfolding mended
 mended-length r = after-length mendProgram r
@@ -61,13 +67,8 @@ module _ (r : List ℕ) (long : length r ≡ 52) where
   mended-is : mended r ≡ phase 16 wipeStep placesCleared
   unfolding mended mendProgram raised formedSet placesCleared
   mended-is =
-      after-append (raiseStep ∷ []) (upTo 16 formedStep ++ (upTo 16 clearStep ++ upTo 16 wipeStep)) r
-      ∙ ap (after (upTo 16 formedStep ++ (upTo 16 clearStep ++ upTo 16 wipeStep))) (after-one raiseStep r)
-      ∙ after-append (upTo 16 formedStep) (upTo 16 clearStep ++ upTo 16 wipeStep) raised
-      ∙ ap (after (upTo 16 clearStep ++ upTo 16 wipeStep)) (after-phase 16 formedStep raised)
-      ∙ after-append (upTo 16 clearStep) (upTo 16 wipeStep) formedSet
-      ∙ ap (after (upTo 16 wipeStep)) (after-phase 16 clearStep formedSet)
-      ∙ after-phase 16 wipeStep placesCleared
+      after-parts raiseStep (upTo 16 formedStep) (upTo 16 clearStep) (upTo 16 wipeStep) r
+      ∙ rw (after-phase 16 formedStep raised, after-phase 16 clearStep formedSet, after-phase 16 wipeStep placesCleared) refl
 
   pub raised-length : length raised ≡ 52
   unfolding raised

@@ -1,5 +1,5 @@
 -- At each turn the number is the fold over the places passed.
-use mathlib.Core.Path.{_≡_, sym, ap, _∙_}
+use mathlib.Core.Path.{_≡_, refl, sym, ap, _∙_}
 use Rattle.loops.proofs.Laws.Fold.{fold-none, fold-again, fold-end}
 use borrow.Author.Needs.{needs}
 use native.Mathlib.Omega.{arith}
@@ -46,7 +46,7 @@ loop-less : tie.Need-loop-less Inv-loop μ-loop
 loop-less c = omega arith
 
 loop-again : tie.Need-loop-again Inv-loop μ-loop
-loop-again c = (omega arith, fold-again (higher _) _ _ (c .before .before .before .before .loop .inv .1) (c .larger2 .ensures ∙ rw (c .before .number-of2 .ensures, c .before .before .place-at .ensures)))
+loop-again c = (omega arith, fold-again (higher _) _ _ (c .before .before .before .before .loop .inv .1) (c .larger2 .ensures ∙ rw (c .before .number-of2 .ensures, c .before .before .place-at .ensures) refl))
 
 returns : tie.Need-returns Inv-loop μ-loop
 unfolding greatest

@@ -1,0 +1,2 @@
+-- The laws, one file a subject.
+pub mod Steps
