@@ -151,18 +151,14 @@ fn places_kept(st: State, sender: usize) -> bool
     (number_of(places[count - 1]) <= top) & all_place_ok(sender, st.primary, &places, count)
 }
 
-// The state keeps rules 4 to 7, by those of their tests from which the others follow. Rule 5 is asked of its parts, so that the state is not copied for it.
-fn keeps_all(st: State, sender: usize) -> bool
-    requires { ⌜ (sender < 16) × (st .count ≤ 16) ⌝ }
+// The state keeps rules 4 to 7, by those of their tests from which the others follow. `fit` answers rule 5's test of last formed, which is asked of lines that are read without branches and of held states with them.
+fn keeps_all(st: State, sender: usize, fit: bool) -> bool
+    requires { ⌜ (sender < 16) × (st .count ≤ 16) × (fit ≡ allBelow 16 (λ q. formedOk sender (st .primary) q (getD (st .formed) q 0))) ⌝ }
     ensures { λ r. ⌜ r ≡ eqb (brokenOf st sender) 0 ⌝ }
 {
-    let formed = st.formed;
     let p = st.primary;
     let top = st.number as u64;
-    (number_of(p) <= top)
-        & primary_ok(sender, p)
-        & formed_kept(sender, p, formed)
-        & places_kept(st, sender)
+    (number_of(p) <= top) & primary_ok(sender, p) & fit & places_kept(st, sender)
 }
 
 // The first of rules 4 to 7 that the state breaks, each rule by all of its tests.
@@ -190,7 +186,10 @@ pub fn broken(st: State, sender: usize) -> u8
     requires { ⌜ (sender < 16) × (st .count ≤ 16) ⌝ }
     ensures { λ r. ⌜ r ≡ brokenOf st sender ⌝ }
 {
-    if keeps_all(st, sender) {
+    let formed = st.formed;
+    let p = st.primary;
+    let fit = formed_kept(sender, p, formed);
+    if keeps_all(st, sender, fit) {
         return 0;
     }
     first_broken(st, sender)
@@ -209,20 +208,6 @@ fn all_formed_fit(own: usize, p: u64, words: [u64; Group::HEADS]) -> bool
     true
 }
 
-// The same tests as `keeps_all`, of a state that is held.
-fn keeps_held(st: State, sender: usize) -> bool
-    requires { ⌜ (sender < 16) × (st .count ≤ 16) ⌝ }
-    ensures { λ r. ⌜ r ≡ eqb (brokenOf st sender) 0 ⌝ }
-{
-    let formed = st.formed;
-    let p = st.primary;
-    let top = st.number as u64;
-    (number_of(p) <= top)
-        & primary_ok(sender, p)
-        & all_formed_fit(sender, p, formed)
-        & places_kept(st, sender)
-}
-
 // The state keeps rules 4 to 7, with at most 16 places.
 pub fn keeps_rules(st: State, sender: usize) -> bool
     requires { ⌜ sender < 16 ⌝ }
@@ -231,5 +216,8 @@ pub fn keeps_rules(st: State, sender: usize) -> bool
     if Group::PLACES < st.count {
         return false;
     }
-    keeps_held(st, sender)
+    let formed = st.formed;
+    let p = st.primary;
+    let fit = all_formed_fit(sender, p, formed);
+    keeps_all(st, sender, fit)
 }

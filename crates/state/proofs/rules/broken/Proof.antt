@@ -5,6 +5,9 @@ use borrow.Author.Needs.{needs}
 use Rattle.state.proofs.rules.broken.Statement.{statement}
 use Rattle.state.proofs.rules.broken.Tie as tie
 
+formed-kept-requires : tie.Need-formed-kept-requires
+formed-kept-requires c κs = search needs
+
 keeps-all-requires : tie.Need-keeps-all-requires
 keeps-all-requires c κs = search needs
 
@@ -18,4 +21,6 @@ returns-2 : tie.Need-returns-2
 returns-2 c = search needs
 
 pub broken-spec : {M : Type 1} → statement M
-broken-spec = tie.close (tie.spec keeps-all-requires returns first-broken-requires returns-2)
+broken-spec =
+    tie.close
+    (tie.spec formed-kept-requires keeps-all-requires returns first-broken-requires returns-2)

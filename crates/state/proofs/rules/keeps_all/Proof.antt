@@ -1,4 +1,4 @@
--- Each test is its part, and the four are all of the rules.
+-- Each test is its part, the answer given among them, and the four are all of the rules.
 use native.Mathlib.Omega.{arith}
 use Rattle.state.proofs.Laws.Fewer.{fewer-tests}
 use borrow.Author.Needs.{needs}
@@ -14,26 +14,17 @@ number-of-requires c κs = search needs
 primary-ok-requires : tie.Need-primary-ok-requires
 primary-ok-requires c κs = search needs
 
-formed-kept-requires : tie.Need-formed-kept-requires
-formed-kept-requires c κs = search needs
-
 places-kept-requires : tie.Need-places-kept-requires
 places-kept-requires c κs = search needs
 
 returns : tie.Need-returns
 returns c =
-    let n = c .before .before .before in
-    let a = n .before .before .before .args in
-    rw (n .number-of .ensures, c .before .before .primary-ok .ensures, c .before .formed-kept .ensures, c .places-kept .ensures)
-    (fewer-tests (a .st) (a .sender) (omega arith) (omega arith))
+    let n = c .before .before in
+    let s = n .before .before in
+    rw (n .number-of .ensures, c .before .primary-ok .ensures, s .pre .2, c .places-kept .ensures)
+    (fewer-tests (s .args .st) (s .args .sender) (omega arith) (omega arith))
 
 pub keeps-all-spec : {M : Type 1} → statement M
 keeps-all-spec =
     tie.close
-    (tie.spec
-    cast-top
-    number-of-requires
-    primary-ok-requires
-    formed-kept-requires
-    places-kept-requires
-    returns)
+    (tie.spec cast-top number-of-requires primary-ok-requires places-kept-requires returns)
