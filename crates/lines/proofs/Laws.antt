@@ -8,4 +8,5 @@ pub mod FrameBack
 pub mod Trip
 pub mod Walk
 pub mod Alike
+pub mod Parts
 pub mod Theorems
