@@ -4,9 +4,8 @@ use crate::session::Next;
 use crate::session::Session;
 use deciding::decide_stores;
 use deciding::form_stores;
-use fitting::stage::ATTEMPTED;
-use fitting::stage::CLOSED;
 use fitting::stage::FORMED;
+use fitting::stage::stage_after;
 use group::Answer;
 use group::Refusal;
 use lines::Line;
@@ -27,7 +26,7 @@ use writer::write_attempt;
 use writer::write_state;
 ghost use mathlib.Core.Path.{_≡_};
 ghost use Prim.Native.Nat.{_<_};
-ghost use Rattle.group.specs.Answers.{said, attempted, cut};
+ghost use Rattle.group.specs.Answers.{said, cut};
 ghost use Rattle.head.specs.Calls.{ended, enterSpec, hearStateSpec, hearAttemptSpec, decideSpec, formSpec, wrote, writeStateSpec, writeAttemptSpec};
 ghost use Rattle.head.specs.Session.{noSession};
 
@@ -40,16 +39,6 @@ fn cut_off(own: usize) -> Next
     Next {
         answer: Answer::Cut,
         session: Session::none_of(own),
-    }
-}
-
-// The stage after decide's answer.
-fn stage_after(answer: Answer) -> u8
-    ensures { λ r. ⌜ (said answer ≡ attempted → r ≡ 3) × ((said answer ≡ attempted → ⊥) → r ≡ 2) ⌝ }
-{
-    match answer {
-        Answer::Attempted => ATTEMPTED,
-        _ => CLOSED,
     }
 }
 

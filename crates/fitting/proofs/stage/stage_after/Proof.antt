@@ -9,8 +9,8 @@ use Rattle.group.specs.declared.answers.Answer.the-variants.{Attempted}
 use Rattle.group.specs.Answers.{said}
 use Rattle.group.proofs.Laws.Answers.{said-one}
 use borrow.Author.Needs.{needs}
-use Rattle.head.proofs.calls.stage_after.Statement.{statement}
-use Rattle.head.proofs.calls.stage_after.Tie as tie
+use Rattle.fitting.proofs.stage.stage_after.Statement.{statement}
+use Rattle.fitting.proofs.stage.stage_after.Tie as tie
 
 -- an answer of any other tag
 not-attempted : (a : Answer) → OneOf (0 ∷ 1 ∷ 2 ∷ 3 ∷ 5 ∷ 6 ∷ 7 ∷ 8 ∷ 9 ∷ 10 ∷ 11 ∷ []) (tagOf the-type a) → a ≡ Attempted → ⊥
