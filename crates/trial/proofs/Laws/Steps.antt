@@ -19,11 +19,9 @@ use Rattle.store.proofs.Laws.Program.{after-none, after-next, upTo-none}
 
 -- ---- one step
 
-taken : (c : Bool) (z x : List ℕ) {y : List ℕ} → y ≡ cond c z x → c ≡ true → z ≡ y
-taken c z x e t = sym (e ∙ ap (λ (b : Bool). cond b z x) t)
-
-left : (c : Bool) (z x : List ℕ) {y : List ℕ} → y ≡ cond c z x → c ≡ false → x ≡ y
-left c z x e t = sym (e ∙ ap (λ (b : Bool). cond b z x) t)
+-- what it makes, by its test's answer
+by-test : (c : Bool) (z x : List ℕ) {y : List ℕ} {b : Bool} → y ≡ cond c z x → c ≡ b → cond b z x ≡ y
+by-test c z x e t = sym (e ∙ ap (λ (d : Bool). cond d z x) t)
 
 module _ (r : List ℕ) (q : ℕ) {p : ℕ} {b : Bool} (is : p ≡ primary r) (test : b ≡ has p q) where
   among : has (primary r) q ≡ b
@@ -31,30 +29,30 @@ module _ (r : List ℕ) (q : ℕ) {p : ℕ} {b : Bool} (is : p ≡ primary r) (t
 
   pub form-taken : {y : List ℕ} → b ≡ true → y ≡ stored (storeFormed q p) r → y ≡ apply (formedStep q r) r
   form-taken t e =
-      e ∙ ap (λ (w : ℕ). stored (storeFormed q w) r) is ∙ taken (has (primary r) q) (stored (storeFormed q (primary r)) r) r (formed-made q r) (among ∙ t)
+      e ∙ ap (λ (w : ℕ). stored (storeFormed q w) r) is ∙ by-test (has (primary r) q) (stored (storeFormed q (primary r)) r) r (formed-made q r) (among ∙ t)
 
   pub form-left : b ≡ false → r ≡ apply (formedStep q r) r
-  form-left t = left (has (primary r) q) (stored (storeFormed q (primary r)) r) r (formed-made q r) (among ∙ t)
+  form-left t = by-test (has (primary r) q) (stored (storeFormed q (primary r)) r) r (formed-made q r) (among ∙ t)
 
 module _ (r : List ℕ) (i : ℕ) {w p a b : ℕ} (place : w ≡ placeAt r i) (above : a ≡ rank w) (is : p ≡ primary r) (below : b ≡ rank p) where
   past : leb (rank (placeAt r i)) (rank (primary r)) ≡ leb a b
   past = rw (above, below, place, is) refl
 
   pub clear-taken : {y : List ℕ} → a ≤ b → y ≡ stored (storePlace i 0) r → y ≡ apply (clearStep i r) r
-  clear-taken t e = e ∙ taken (leb (rank (placeAt r i)) (rank (primary r))) (stored (storePlace i 0) r) r (clear-made i r) (past ∙ le-leb a b t)
+  clear-taken t e = e ∙ by-test (leb (rank (placeAt r i)) (rank (primary r))) (stored (storePlace i 0) r) r (clear-made i r) (past ∙ le-leb a b t)
 
   pub clear-left : b < a → r ≡ apply (clearStep i r) r
-  clear-left t = left (leb (rank (placeAt r i)) (rank (primary r))) (stored (storePlace i 0) r) r (clear-made i r) (past ∙ lt-leb a b t)
+  clear-left t = by-test (leb (rank (placeAt r i)) (rank (primary r))) (stored (storePlace i 0) r) r (clear-made i r) (past ∙ lt-leb a b t)
 
 module _ (r : List ℕ) (i : ℕ) {w : ℕ} (place : w ≡ placeAt r i) where
   free : eqb (placeAt r i) 0 ≡ eqb w 0
   free = rw place refl
 
   pub wipe-taken : {y : List ℕ} → w ≡ 0 → y ≡ stored (storeMarks i 0) r → y ≡ apply (wipeStep i r) r
-  wipe-taken t e = e ∙ taken (eqb (placeAt r i) 0) (stored (storeMarks i 0) r) r (wipe-made i r) (free ∙ eq-eqb w 0 t)
+  wipe-taken t e = e ∙ by-test (eqb (placeAt r i) 0) (stored (storeMarks i 0) r) r (wipe-made i r) (free ∙ eq-eqb w 0 t)
 
   pub wipe-left : (w ≡ 0 → ⊥) → r ≡ apply (wipeStep i r) r
-  wipe-left t = left (eqb (placeAt r i) 0) (stored (storeMarks i 0) r) r (wipe-made i r) (free ∙ ne-eqb w 0 t)
+  wipe-left t = by-test (eqb (placeAt r i) 0) (stored (storeMarks i 0) r) r (wipe-made i r) (free ∙ ne-eqb w 0 t)
 
 -- ---- all of a kind, as a loop takes the steps f 0, f 1, ..
 
