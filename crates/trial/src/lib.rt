@@ -18,7 +18,7 @@ ghost use Rattle.store.specs.Desk.{apply};
 ghost use Rattle.store.specs.Program.{after, upTo};
 ghost use Rattle.recovery.specs.Recover.{greatest, formedStep, clearStep, wipeStep, mended};
 
-// The greatest number in the record.
+// The greatest of the session number and the numbers of last primary and the places.
 fn greatest(rec: &[u64]) -> u64
     requires { ⌜ length (now rec) ≡ 52 ⌝ }
     ensures { λ r. ⌜ r ≡ greatest (now (rec .entry)) ⌝ }

@@ -1,5 +1,5 @@
--- To store the recovered record where it differs makes recovery's own stores: each of its steps stores one word at most, a word that no other step stores, and
--- reads no word that a step after it stores.
+-- To store the recovered record where it differs, in order of the words, makes recovery's own stores: each of its steps stores one word at most, a word that no
+-- other step stores, and the steps come in the order of these words.
 use mathlib.Core.Bool.{Bool, true, false, cond}
 use mathlib.Core.Path.{_≡_, refl, sym, ap, _∙_}
 use mathlib.Core.List.{List, [], _∷_, _++_, append-assoc, append-nil}
