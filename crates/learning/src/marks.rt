@@ -61,7 +61,7 @@ fn mark_place(rec: &mut [u64], pen: Pen, m: u16, offers: [u64; Group::HEADS], i:
         return pen;
     }
     let marks = marked_in(m, own(rec), w, offers, marks_at(rec, i));
-    change_marks(rec, pen, true, i, marks)
+    change_marks(rec, pen, i, marks)
 }
 
 // Marks every place.

@@ -2,29 +2,14 @@
 use group::Answer;
 use group::Group;
 use group::Refusal;
+use record::layout::change_record;
+use recovered::mended;
 use store::Pen;
-use store::change;
-use trial::mended;
 use whole::is_whole;
 ghost use mathlib.Core.Path.{_≡_};
 ghost use lib.ListN.{length};
-ghost use Rattle.store.specs.Desk.{desk};
-ghost use Rattle.store.specs.Program.{exec};
 ghost use Rattle.record.specs.Outcome.{outcome};
 ghost use Rattle.recovery.specs.Recover.{recoverSpec};
-ghost use Rattle.mending.specs.Toward.{storeProgram};
-
-// Makes the record be `to`, with at most the pen's stores: the words that differ, in order.
-fn store_all(rec: &mut [u64], pen: Pen, to: &[u64]) -> Pen
-    requires { ⌜ (length (now rec) ≡ 52) × (length (now to) ≡ 52) ⌝ }
-    ensures { λ r. ⌜ desk (now (rec .exit)) r ≡ exec (storeProgram (now (to .entry))) (desk (now (rec .entry)) pen) ⌝ }
-{
-    let mut p = pen;
-    for k in 0..Group::WORDS {
-        p = change(rec, p, true, k, to[k]);
-    }
-    p
-}
 
 // Recovers a record of 52 words, with at most so many stores. One that the steps do not make whole is refused before the first store.
 fn recover_words(rec: &mut [u64], stores: u64) -> Answer
@@ -35,7 +20,7 @@ fn recover_words(rec: &mut [u64], stores: u64) -> Answer
     if !is_whole(&to) {
         return Answer::Refused(Refusal::Record);
     }
-    let pen = store_all(
+    let pen = change_record(
         rec,
         Pen {
             left: stores,

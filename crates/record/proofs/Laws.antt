@@ -1,5 +1,6 @@
 -- The laws, one file a subject.
 pub mod Layout
+pub mod Words
 pub mod Whole
 pub mod Fewer
 pub mod Fresh

@@ -1,4 +1,4 @@
-// Which word of the record holds what: its fields, and their stores under a pen. No other file knows it.
+// Which word of the record holds what: its fields, their stores under a pen, and their writes in a copy. No other file knows it.
 use group::Group;
 use store::Pen;
 use store::change;
@@ -7,9 +7,10 @@ use store::put_if;
 ghost use mathlib.Core.Path.{_≡_};
 ghost use Prim.Native.Nat.{_<_};
 ghost use lib.ListN.{length};
-ghost use Rattle.store.specs.Desk.{desk, stored, putTo, run, storeIf, diffIf};
+ghost use Rattle.store.specs.Desk.{desk, stored, putTo, run, storeIf, whereChanged};
+ghost use Rattle.store.specs.Program.{exec};
 ghost use Rattle.record.specs.Layout.{settings, core, least, own, entered, number, primary, formedFor, placeAt, marksAt};
-ghost use Rattle.record.specs.Layout.{storeEntered, storeNumber, storePrimary, storeFormed, storePlace, storeMarks};
+ghost use Rattle.record.specs.Layout.{storeEntered, storeNumber, storePrimary, storeFormed, storePlace, storeMarks, storeRecord};
 
 // W0, Q and own head, in one word.
 pub fn settings(rec: &[u64]) -> u64
@@ -148,12 +149,24 @@ pub fn put_marks_if(rec: &mut [u64], pen: Pen, asked: bool, i: usize, m: u64) ->
     put_if(rec, pen, asked, 36 + i, m)
 }
 
-// Where asked, stores only a word that changes.
-pub fn change_marks(rec: &mut [u64], pen: Pen, asked: bool, i: usize, m: u64) -> Pen
+// Stores only a word that changes.
+pub fn change_marks(rec: &mut [u64], pen: Pen, i: usize, m: u64) -> Pen
     requires { ⌜ (length (now rec) ≡ 52) × (i < 16) ⌝ }
-    ensures { λ r. ⌜ desk (now (rec .exit)) r ≡ run (diffIf asked (storeMarks i m) (now (rec .entry))) (desk (now (rec .entry)) pen) ⌝ }
+    ensures { λ r. ⌜ desk (now (rec .exit)) r ≡ run (whereChanged (storeMarks i m) (now (rec .entry))) (desk (now (rec .entry)) pen) ⌝ }
 {
-    change(rec, pen, asked, 36 + i, m)
+    change(rec, pen, 36 + i, m)
+}
+
+// Makes the record be `to`, field by field in the order of its words.
+pub fn change_record(rec: &mut [u64], pen: Pen, to: &[u64]) -> Pen
+    requires { ⌜ (length (now rec) ≡ 52) × (length (now to) ≡ 52) ⌝ }
+    ensures { λ r. ⌜ desk (now (rec .exit)) r ≡ exec (storeRecord (now (to .entry))) (desk (now (rec .entry)) pen) ⌝ }
+{
+    let mut p = pen;
+    for k in 0..Group::WORDS {
+        p = change(rec, p, k, to[k]);
+    }
+    p
 }
 
 // Sets a word with no pen, in a copy.

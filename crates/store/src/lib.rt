@@ -2,7 +2,7 @@
 ghost use mathlib.Core.Path.{_≡_};
 ghost use Prim.Native.Nat.{_<_};
 ghost use lib.ListN.{length};
-ghost use Rattle.store.specs.Desk.{desk, store, putTo, run, storeIf, diffIf};
+ghost use Rattle.store.specs.Desk.{desk, store, putTo, run, storeIf, whereChanged};
 
 // A pen that stays as it is, is handed back field by field: copied whole, the bytes between its fields and its end would be copied too, and each such copy
 // waits for the one before.
@@ -47,17 +47,11 @@ pub fn put_if(rec: &mut [u64], pen: Pen, asked: bool, at: usize, w: u64) -> Pen
     put(rec, pen, at, w)
 }
 
-// Where asked, makes the word be w, with no store where it is w already.
-pub fn change(rec: &mut [u64], pen: Pen, asked: bool, at: usize, w: u64) -> Pen
+// Makes the word be w, with no store where it is w already.
+pub fn change(rec: &mut [u64], pen: Pen, at: usize, w: u64) -> Pen
     requires { ⌜ at < length (now rec) ⌝ }
-    ensures { λ r. ⌜ desk (now (rec .exit)) r ≡ run (diffIf asked (store at w) (now (rec .entry))) (desk (now (rec .entry)) pen) ⌝ }
+    ensures { λ r. ⌜ desk (now (rec .exit)) r ≡ run (whereChanged (store at w) (now (rec .entry))) (desk (now (rec .entry)) pen) ⌝ }
 {
-    if !asked {
-        return Pen {
-            left: pen.left,
-            cut: pen.cut,
-        };
-    }
     if rec[at] == w {
         return Pen {
             left: pen.left,

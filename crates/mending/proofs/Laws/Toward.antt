@@ -1,33 +1,31 @@
--- To store the recovered record where it differs, in order of the words, makes recovery's own stores: each of its steps stores one word at most, a word that no
--- other step stores, and the steps come in the order of these words.
+-- To store the recovered record where it differs, field by field, makes recovery's own stores: each of its steps stores one field at most, a field that no
+-- other step stores, and the steps come in the order of these fields.
 use mathlib.Core.Bool.{Bool, true, false, cond}
 use mathlib.Core.Path.{_≡_, refl, sym, ap, _∙_}
-use mathlib.Core.List.{List, [], _∷_, _++_, append-assoc, append-nil}
-use Prim.Native.Nat.{ℕ, zero, suc, _+_, _<_}
+use mathlib.Core.List.{List, [], _∷_, _++_}
+use Prim.Native.Nat.{ℕ, zero, suc, _<_}
 use native.Mathlib.Nat.{lt-irrefl}
 use native.Mathlib.Omega.{arith}
 use lib.Dec.{eqb, leb}
 use lib.ListN.{length}
 use Rattle.group.specs.Heads.{has}
 use Rattle.group.specs.Words.{rank}
-use Rattle.store.specs.Desk.{Store, Desk, desk, store, stored, apply, diffIf, run}
+use Rattle.store.specs.Desk.{Store, Desk, desk, stored, apply, whereChanged, diffIf, run}
 use Rattle.store.specs.declared.Pen.{Pen}
 use Rattle.store.specs.Program.{Step, exec, script, after, upTo}
-use Rattle.store.proofs.Laws.Put.{apply-diffIf, diffIf-none}
-use Rattle.store.proofs.Laws.Program.{after-append, exec-run, script-append, script-one, upTo-none, upTo-next, after-one}
-use Rattle.record.specs.Layout.{word, settings, entered, number, primary, formedFor, placeAt, marksAt, storeNumber, storeFormed, storePlace, storeMarks}
-use Rattle.record.proofs.Laws.Layout.{Puts, formed-puts, place-puts, marks-puts, not-stored, number-stored, formed-stored, place-stored, marks-stored}
+use Rattle.store.proofs.Laws.Program.{exec-run, script-append, script-one, upTo-none, upTo-next, after-one}
+use Rattle.record.specs.Layout.{settings, entered, number, primary, formedFor, placeAt, marksAt, storeSettings, storeEntered, storeNumber, storePrimary, storeFormed, storePlace, storeMarks, storeRecord}
+use Rattle.record.proofs.Laws.Layout.{Puts, settings-puts, entered-puts, primary-puts, formed-puts, place-puts, marks-puts, not-stored, formed-stored, place-stored, marks-stored}
 use Rattle.recovery.specs.Recover.{raiseStep, formedStep, clearStep, wipeStep, mendProgram, mended}
 use Rattle.recovery.proofs.Laws.Phases.{phase, after-phase, phase-keeps, made-keeps}
 use Rattle.recovery.proofs.Laws.Fields.{formed-there, place-there, marks-there}
 use Rattle.recovery.proofs.Laws.Mended.{formed-made, clear-made, wipe-made, raised, formedSet, placesCleared, raised-length, formed-set-length, places-cleared-length, raised-reads, formed-set-reads, places-cleared-reads, mended-reads}
-use Rattle.mending.specs.Toward.{wordTo, storeProgram}
 
--- a store of v where asked is the store of what the word then is
+-- a store of v where asked is the store of what the field then is
 same-diff : (put : ℕ → Store) (field : List ℕ → ℕ) → ((w : ℕ) → Puts (put w) field w) → (c : Bool) (v w : ℕ) (r : List ℕ)
-    → w ≡ cond c v (field r) → diffIf c (put v) r ≡ diffIf true (put w) r
+    → w ≡ cond c v (field r) → diffIf c (put v) r ≡ whereChanged (put w) r
 unfolding diffIf
-same-diff put field p true v w r e = ap (λ (u : ℕ). diffIf true (put u) r) (sym e)
+same-diff put field p true v w r e = ap (λ (u : ℕ). whereChanged (put u) r) (sym e)
 same-diff put field p false v w r e = sym (not-stored (p w) true r (λ t. sym e))
 
 -- ---- programs that store the same
@@ -48,6 +46,15 @@ same-steps f g r (suc n) e =
 
 -- ---- the steps of a kind: each finds what it reads as it was before the first
 
+abbrev formedTo : List ℕ → ℕ → Step
+formedTo t q = whereChanged (storeFormed q (formedFor t q))
+
+abbrev placeTo : List ℕ → ℕ → Step
+placeTo t i = whereChanged (storePlace i (placeAt t i))
+
+abbrev marksTo : List ℕ → ℕ → Step
+marksTo t i = whereChanged (storeMarks i (marksAt t i))
+
 -- what the stores of the first n steps leave
 
 before-formed : (x : List ℕ) (g : List ℕ → ℕ) (n : ℕ) → ((j : ℕ) (y : List ℕ) → j < n → length y ≡ length x → g (stored (storeFormed j (primary y)) y) ≡ g y) → g (phase n formedStep x) ≡ g x
@@ -60,9 +67,9 @@ before-wipe : (x : List ℕ) (g : List ℕ → ℕ) (n : ℕ) → ((j : ℕ) (y 
 before-wipe x g n k = phase-keeps wipeStep x g n (λ j y b l. made-keeps g (eqb (placeAt y j) 0) (stored (storeMarks j 0) y) y (wipe-made j y) (k j y b l))
 
 module _ (t x : List ℕ) (long : length x ≡ 52) where
-  same-formed : ((q : ℕ) → q < 16 → formedFor t q ≡ cond (has (primary x) q) (primary x) (formedFor x q)) → script (upTo 16 formedStep) x ≡ script (upTo 16 (λ q. wordTo t (4 + q))) x
-  unfolding formedStep wordTo storeFormed formedFor
-  same-formed is = same-steps formedStep (λ q. wordTo t (4 + q)) x 16 (λ q h. let y = phase q formedStep x in
+  same-formed : ((q : ℕ) → q < 16 → formedFor t q ≡ cond (has (primary x) q) (primary x) (formedFor x q)) → script (upTo 16 formedStep) x ≡ script (upTo 16 (formedTo t)) x
+  unfolding formedStep
+  same-formed is = same-steps formedStep (formedTo t) x 16 (λ q h. let y = phase q formedStep x in
       same-diff (storeFormed q) (λ r. formedFor r q) (formed-puts q) (has (primary y) q) (primary y) (formedFor t q) y (is q h ∙ rw (primary-before q h, formed-before q h) refl))
     where
       primary-before : (q : ℕ) → q < 16 → primary (phase q formedStep x) ≡ primary x
@@ -71,9 +78,9 @@ module _ (t x : List ℕ) (long : length x ≡ 52) where
       formed-before : (q : ℕ) → q < 16 → formedFor (phase q formedStep x) q ≡ formedFor x q
       formed-before q h = before-formed x (λ y. formedFor y q) q (λ j y b l. formed-there y (l ∙ long) j (primary y) (omega arith) q h (λ e. lt-irrefl j (omega arith)))
 
-  same-places : ((i : ℕ) → i < 16 → placeAt t i ≡ cond (leb (rank (placeAt x i)) (rank (primary x))) 0 (placeAt x i)) → script (upTo 16 clearStep) x ≡ script (upTo 16 (λ i. wordTo t (20 + i))) x
-  unfolding clearStep wordTo storePlace placeAt
-  same-places is = same-steps clearStep (λ i. wordTo t (20 + i)) x 16 (λ i h. let y = phase i clearStep x in
+  same-places : ((i : ℕ) → i < 16 → placeAt t i ≡ cond (leb (rank (placeAt x i)) (rank (primary x))) 0 (placeAt x i)) → script (upTo 16 clearStep) x ≡ script (upTo 16 (placeTo t)) x
+  unfolding clearStep
+  same-places is = same-steps clearStep (placeTo t) x 16 (λ i h. let y = phase i clearStep x in
       same-diff (storePlace i) (λ r. placeAt r i) (place-puts i) (leb (rank (placeAt y i)) (rank (primary y))) 0 (placeAt t i) y (is i h ∙ rw (primary-before i h, place-before i h) refl))
     where
       primary-before : (i : ℕ) → i < 16 → primary (phase i clearStep x) ≡ primary x
@@ -82,9 +89,9 @@ module _ (t x : List ℕ) (long : length x ≡ 52) where
       place-before : (i : ℕ) → i < 16 → placeAt (phase i clearStep x) i ≡ placeAt x i
       place-before i h = before-clear x (λ y. placeAt y i) i (λ j y b l. place-there y (l ∙ long) j 0 (omega arith) i h (λ e. lt-irrefl j (omega arith)))
 
-  same-marks : ((i : ℕ) → i < 16 → marksAt t i ≡ cond (eqb (placeAt x i) 0) 0 (marksAt x i)) → script (upTo 16 wipeStep) x ≡ script (upTo 16 (λ i. wordTo t (36 + i))) x
-  unfolding wipeStep wordTo storeMarks marksAt
-  same-marks is = same-steps wipeStep (λ i. wordTo t (36 + i)) x 16 (λ i h. let y = phase i wipeStep x in
+  same-marks : ((i : ℕ) → i < 16 → marksAt t i ≡ cond (eqb (placeAt x i) 0) 0 (marksAt x i)) → script (upTo 16 wipeStep) x ≡ script (upTo 16 (marksTo t)) x
+  unfolding wipeStep
+  same-marks is = same-steps wipeStep (marksTo t) x 16 (λ i h. let y = phase i wipeStep x in
       same-diff (storeMarks i) (λ r. marksAt r i) (marks-puts i) (eqb (placeAt y i) 0) 0 (marksAt t i) y (is i h ∙ rw (place-before i h, marks-before i h) refl))
     where
       place-before : (i : ℕ) → i < 16 → placeAt (phase i wipeStep x) i ≡ placeAt x i
@@ -95,90 +102,53 @@ module _ (t x : List ℕ) (long : length x ≡ 52) where
 
 -- ---- all of them
 
-split : (n m : ℕ) (f : ℕ → Step) → upTo (n + m) f ≡ upTo n f ++ upTo m (λ i. f (n + i))
-split n zero f = ap (λ (k : ℕ). upTo k f) (omega arith) ∙ sym (ap (λ (p : List Step). upTo n f ++ p) (upTo-none (λ i. f (n + i))) ∙ append-nil (upTo n f))
-split n (suc m) f =
-    ap (λ (k : ℕ). upTo k f) (omega arith) ∙ upTo-next (n + m) f ∙ ap (λ (p : List Step). p ++ (f (n + m) ∷ [])) (split n m f)
-    ∙ append-assoc (upTo n f) (upTo m (λ i. f (n + i))) (f (n + m) ∷ []) ∙ ap (λ (p : List Step). upTo n f ++ p) (sym (upTo-next m (λ i. f (n + i))))
-
 -- a step that stores nothing
 skip : (f : Step) (fs : List Step) (r : List ℕ) → f r ≡ [] → script (f ∷ fs) r ≡ script fs r
 unfolding script apply
 skip f fs r e = rw e refl
 
-same-after : (a c : List Step) (r : List ℕ) → script a r ≡ script c r → after a r ≡ after c r
-unfolding after
-same-after a c r e = ap (λ (s : List Store). apply s r) e
+-- a field that is as it was
+stays : (s : Store) (r : List ℕ) {field : List ℕ → ℕ} {w : ℕ} → Puts s field w → field r ≡ w → whereChanged s r ≡ []
+unfolding diffIf
+stays s r p e = not-stored p true r (λ t. e)
 
 module _ (r : List ℕ) (long : length r ≡ 52) where
   t : List ℕ
   t = mended r
 
-  -- of words 0 to 3 the steps store the number alone
-
-  same-first : script (upTo 4 (wordTo t)) r ≡ script (raiseStep ∷ []) r
-  unfolding t wordTo raiseStep settings entered number primary storeNumber
-  same-first =
-      let m = mended-reads r long in
-      rw (upTo-next 3 (wordTo t), upTo-next 2 (wordTo t), upTo-next 1 (wordTo t), upTo-next 0 (wordTo t), upTo-none (wordTo t))
-      (skip (wordTo t 0) (wordTo t 1 ∷ (wordTo t 2 ∷ (wordTo t 3 ∷ []))) r (diffIf-none true (store 0 (word t 0)) r (λ e. sym (m .settings-is)))
-      ∙ skip (wordTo t 1) (wordTo t 2 ∷ (wordTo t 3 ∷ [])) r (diffIf-none true (store 1 (word t 1)) r (λ e. sym (m .entered-is)))
-      ∙ same-then (wordTo t 2 ∷ []) (wordTo t 3 ∷ []) (raiseStep ∷ []) [] r
-      (script-one (wordTo t 2) r ∙ ap (λ (n : ℕ). diffIf true (storeNumber n) r) (m .number-is) ∙ sym (script-one raiseStep r))
-      (skip (wordTo t 3) [] (after (wordTo t 2 ∷ []) r) (diffIf-none true (store 3 (word t 3)) (after (wordTo t 2 ∷ []) r) (λ e.
-      ap primary (after-one (wordTo t 2) r ∙ apply-diffIf true (storeNumber (number t)) r) ∙ number-stored r long (number t) .primary-is ∙ sym (m .primary-is)))))
-
-  first-leaves : after (upTo 4 (wordTo t)) r ≡ raised r long
-  unfolding raised
-  first-leaves = same-after (upTo 4 (wordTo t)) (raiseStep ∷ []) r same-first ∙ after-one raiseStep r
-
-  -- then last formed, the places and the marks
-
-  same-20 : script (upTo 20 (wordTo t)) r ≡ script ((raiseStep ∷ []) ++ upTo 16 formedStep) r
-  unfolding t
-  same-20 =
+  same-last : script (upTo 16 formedStep ++ (upTo 16 clearStep ++ upTo 16 wipeStep)) (raised r long) ≡ script (upTo 16 (formedTo t) ++ (upTo 16 (placeTo t) ++ upTo 16 (marksTo t))) (raised r long)
+  unfolding formedSet placesCleared t
+  same-last =
       let m = mended-reads r long in
       let a = raised-reads r long in
-      ap (λ (p : List Step). script p r) (split 4 16 (wordTo t))
-      ∙ same-then (upTo 4 (wordTo t)) (upTo 16 (λ q. wordTo t (4 + q))) (raiseStep ∷ []) (upTo 16 formedStep) r same-first
-      (rw first-leaves (sym (same-formed t (raised r long) (raised-length r long) (λ q h. m .formed-is q h ∙ rw (a .primary-is, a .formed-is q h) refl))))
-
-  leaves-20 : after (upTo 20 (wordTo t)) r ≡ formedSet r long
-  unfolding formedSet raised
-  leaves-20 =
-      same-after (upTo 20 (wordTo t)) ((raiseStep ∷ []) ++ upTo 16 formedStep) r same-20 ∙ after-append (raiseStep ∷ []) (upTo 16 formedStep) r
-      ∙ ap (after (upTo 16 formedStep)) (after-one raiseStep r) ∙ after-phase 16 formedStep (raised r long)
-
-  same-36 : script (upTo 36 (wordTo t)) r ≡ script (((raiseStep ∷ []) ++ upTo 16 formedStep) ++ upTo 16 clearStep) r
-  unfolding t
-  same-36 =
-      let m = mended-reads r long in
       let b = formed-set-reads r long in
-      ap (λ (p : List Step). script p r) (split 20 16 (wordTo t))
-      ∙ same-then (upTo 20 (wordTo t)) (upTo 16 (λ i. wordTo t (20 + i))) ((raiseStep ∷ []) ++ upTo 16 formedStep) (upTo 16 clearStep) r same-20
-      (rw leaves-20 (sym (same-places t (formedSet r long) (formed-set-length r long) (λ i h. m .place-is i h ∙ rw (b .primary-is, b .place-is i h) refl))))
+      let c = places-cleared-reads r long in
+      same-then (upTo 16 formedStep) (upTo 16 clearStep ++ upTo 16 wipeStep) (upTo 16 (formedTo t)) (upTo 16 (placeTo t) ++ upTo 16 (marksTo t)) (raised r long)
+      (same-formed t (raised r long) (raised-length r long) (λ q h. m .formed-is q h ∙ rw (a .primary-is, a .formed-is q h) refl))
+      (rw (after-phase 16 formedStep (raised r long))
+      (same-then (upTo 16 clearStep) (upTo 16 wipeStep) (upTo 16 (placeTo t)) (upTo 16 (marksTo t)) (formedSet r long)
+      (same-places t (formedSet r long) (formed-set-length r long) (λ i h. m .place-is i h ∙ rw (b .primary-is, b .place-is i h) refl))
+      (rw (after-phase 16 clearStep (formedSet r long))
+      (same-marks t (placesCleared r long) (places-cleared-length r long) (λ i h. m .marks-is i h ∙ rw (c .place-is i h, c .marks-is i h) refl)))))
 
-  leaves-36 : after (upTo 36 (wordTo t)) r ≡ placesCleared r long
-  unfolding placesCleared
-  leaves-36 =
-      same-after (upTo 36 (wordTo t)) (((raiseStep ∷ []) ++ upTo 16 formedStep) ++ upTo 16 clearStep) r same-36
-      ∙ after-append ((raiseStep ∷ []) ++ upTo 16 formedStep) (upTo 16 clearStep) r
-      ∙ ap (after (upTo 16 clearStep)) (sym (same-after (upTo 20 (wordTo t)) ((raiseStep ∷ []) ++ upTo 16 formedStep) r same-20) ∙ leaves-20) ∙ after-phase 16 clearStep (formedSet r long)
-
-  same-stores : script (storeProgram t) r ≡ script mendProgram r
-  unfolding mendProgram storeProgram t
+  same-stores : script (storeRecord t) r ≡ script mendProgram r
+  unfolding mendProgram storeRecord raiseStep diffIf raised t
   same-stores =
       let m = mended-reads r long in
-      let c = places-cleared-reads r long in
-      ap (λ (p : List Step). script p r) (split 36 16 (wordTo t))
-      ∙ same-then (upTo 36 (wordTo t)) (upTo 16 (λ i. wordTo t (36 + i))) (((raiseStep ∷ []) ++ upTo 16 formedStep) ++ upTo 16 clearStep) (upTo 16 wipeStep) r same-36
-      (rw leaves-36 (sym (same-marks t (placesCleared r long) (places-cleared-length r long) (λ i h. m .marks-is i h ∙ rw (c .place-is i h, c .marks-is i h) refl))))
-      ∙ ap (λ (p : List Step). script p r)
-      (append-assoc ((raiseStep ∷ []) ++ upTo 16 formedStep) (upTo 16 clearStep) (upTo 16 wipeStep) ∙ append-assoc (raiseStep ∷ []) (upTo 16 formedStep) (upTo 16 clearStep ++ upTo 16 wipeStep))
+      let raise : Step = whereChanged (storeNumber (number t)) in
+      let rest : List Step = upTo 16 (formedTo t) ++ (upTo 16 (placeTo t) ++ upTo 16 (marksTo t)) in
+      skip (whereChanged (storeSettings (settings t))) _ r (stays (storeSettings (settings t)) r (settings-puts (settings t)) (sym (m .settings-is)))
+      ∙ skip (whereChanged (storeEntered (entered t))) _ r (stays (storeEntered (entered t)) r (entered-puts (entered t)) (sym (m .entered-is)))
+      ∙ same-then (raise ∷ []) (whereChanged (storePrimary (primary t)) ∷ rest) (raiseStep ∷ []) (upTo 16 formedStep ++ (upTo 16 clearStep ++ upTo 16 wipeStep)) r
+      (script-one raise r ∙ ap (λ (n : ℕ). whereChanged (storeNumber n) r) (m .number-is) ∙ sym (script-one raiseStep r))
+      (rw (after-one raise r ∙ ap (λ (n : ℕ). apply (whereChanged (storeNumber n) r) r) (m .number-is))
+      (skip (whereChanged (storePrimary (primary t))) rest (raised r long)
+      (stays (storePrimary (primary t)) (raised r long) (primary-puts (primary t)) (raised-reads r long .primary-is ∙ sym (m .primary-is)))
+      ∙ sym same-last))
 
   -- TO STORE THE RECOVERED RECORD IS TO RECOVER
-  pub stored-mends : {x : List ℕ} (p : Pen) {d : Desk} → x ≡ mended r → d ≡ exec (storeProgram x) (desk r p) → d ≡ exec mendProgram (desk r p)
+  pub stored-mends : {x : List ℕ} (p : Pen) {d : Desk} → x ≡ mended r → d ≡ exec (storeRecord x) (desk r p) → d ≡ exec mendProgram (desk r p)
   unfolding t
   stored-mends p e q =
-      q ∙ ap (λ (l : List ℕ). exec (storeProgram l) (desk r p)) e ∙ exec-run (storeProgram t) (desk r p) ∙ ap (λ (s : List Store). run s (desk r p)) same-stores
+      q ∙ ap (λ (l : List ℕ). exec (storeRecord l) (desk r p)) e ∙ exec-run (storeRecord t) (desk r p) ∙ ap (λ (s : List Store). run s (desk r p)) same-stores
       ∙ sym (exec-run mendProgram (desk r p))

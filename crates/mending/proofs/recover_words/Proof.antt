@@ -26,11 +26,11 @@ same-length c = search needs
 returns : tie.Need-returns
 returns c = recover-refused _ _ (right-length _ (c .before .before .before .before .before .before .pre) ∙ failed _ _ (c .before .is-whole .ensures ∙ ap whole (c .before .before .before .mended .ensures)) (c .if1 .taken))
 
-slice-aggregate-store-all : tie.Need-slice-aggregate-store-all
-slice-aggregate-store-all c = search needs
+slice-aggregate-change-record : tie.Need-slice-aggregate-change-record
+slice-aggregate-change-record c = search needs
 
-store-all-requires : tie.Need-store-all-requires
-store-all-requires c κs = search needs
+change-record-requires : tie.Need-change-record-requires
+change-record-requires c κs = search needs
 
 same-length-2 : tie.Need-same-length-2
 same-length-2 c = search needs
@@ -39,13 +39,13 @@ mends-here : (c : tie.Else1) → mendable (now (c .before .before .before .befor
 mends-here c = right-length _ (c .before .before .before .before .before .before .pre) ∙ passed _ _ (c .before .is-whole .ensures ∙ ap whole (c .before .before .before .mended .ensures)) (c .if1 .left)
 
 returns-2 : tie.Need-returns-2
-returns-2 c = recover-cut _ _ _ (stored-mends _ (c .before .before .before .before .before .before .before .before .before .before .before .before .pre) _ (c .before .before .before .before .before .before .before .before .before .mended .ensures) (c .before .before .before .store-all .ensures)) (mends-here (c .before .before .before .before .before .before)) (c .if2 .taken)
+returns-2 c = recover-cut _ _ _ (stored-mends _ (c .before .before .before .before .before .before .before .before .before .before .before .before .pre) _ (c .before .before .before .before .before .before .before .before .before .mended .ensures) (c .before .before .before .change-record .ensures)) (mends-here (c .before .before .before .before .before .before)) (c .if2 .taken)
 
 same-length-3 : tie.Need-same-length-3
 same-length-3 c = search needs
 
 returns-3 : tie.Need-returns-3
-returns-3 c = recover-done _ _ _ (stored-mends _ (c .before .before .before .before .before .before .before .before .before .before .before .before .pre) _ (c .before .before .before .before .before .before .before .before .before .mended .ensures) (c .before .before .before .store-all .ensures)) (mends-here (c .before .before .before .before .before .before)) (c .if2 .left)
+returns-3 c = recover-done _ _ _ (stored-mends _ (c .before .before .before .before .before .before .before .before .before .before .before .before .pre) _ (c .before .before .before .before .before .before .before .before .before .mended .ensures) (c .before .before .before .change-record .ensures)) (mends-here (c .before .before .before .before .before .before)) (c .if2 .left)
 
 pub recover-words-spec : {M : Type 1} → statement M
 recover-words-spec =
@@ -56,8 +56,8 @@ recover-words-spec =
     is-whole-requires
     same-length
     returns
-    slice-aggregate-store-all
-    store-all-requires
+    slice-aggregate-change-record
+    change-record-requires
     same-length-2
     returns-2
     same-length-3

@@ -106,8 +106,8 @@ module _ (m : ℕ) (held : Held) (offers : List ℕ) where
   -- p is own head, w the session in place i, k its marks
   pub mark-told : (r : List ℕ) → offers ≡ table 16 (offered m held r) → (i p w k x : ℕ) (pen : Pen) → p ≡ own r → w ≡ placeAt r i → k ≡ marksAt r i
       → x ≡ adding (λ q. has w q && (has m q && not (eqb q p)) && ltb (rank (getD offers q 0)) (rank w)) k
-      → run (diffIf true (storeMarks i x) r) (desk r pen) ≡ stepBy (markStep m held i) (desk r pen)
-  unfolding stepBy markStep marked toMark other offered diffIf
+      → run (whereChanged (storeMarks i x) r) (desk r pen) ≡ stepBy (markStep m held i) (desk r pen)
+  unfolding stepBy markStep marked toMark other offered
   mark-told r told i p w k x pen ep ew ek ex =
       ap (λ (v : ℕ). run (whereChanged (storeMarks i v) r) (desk r pen))
       (ex ∙ rw (ep, ew, ek)

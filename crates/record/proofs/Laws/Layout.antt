@@ -13,7 +13,7 @@ use Rattle.loops.proofs.Laws.Truth.{cond-elim}
 use Rattle.loops.proofs.Laws.Order.{lt-or-ge}
 use Rattle.store.specs.Desk.{Store, store, stored, diffIf}
 use Rattle.store.proofs.Laws.Put.{stored-here, stored-there, diffIf-none}
-use Rattle.record.specs.Layout.{word, settings, core, least, own, entered, number, primary, formedFor, placeAt, marksAt, storeEntered, storeNumber, storePrimary, storeFormed, storePlace, storeMarks}
+use Rattle.record.specs.Layout.{word, settings, core, least, own, entered, number, primary, formedFor, placeAt, marksAt, storeSettings, storeEntered, storeNumber, storePrimary, storeFormed, storePlace, storeMarks}
 
 -- ---- own head, W0 and Q are parts of word 0
 
@@ -70,6 +70,18 @@ module _ {a b : List ℕ} {g v n p : ℕ} {formed place marks : ℕ → ℕ} (s 
 pub record Puts (s : Store) (field : List ℕ → ℕ) (w : ℕ) : Type 0 where
   pub old : (r : List ℕ) → word r (s .at) ≡ field r
   pub new : s .word ≡ w
+
+pub settings-puts : (w : ℕ) → Puts (storeSettings w) settings w
+unfolding storeSettings settings
+settings-puts w = record { old = λ r. refl; new = refl }
+
+pub entered-puts : (v : ℕ) → Puts (storeEntered v) entered v
+unfolding storeEntered entered
+entered-puts v = record { old = λ r. refl; new = refl }
+
+pub primary-puts : (w : ℕ) → Puts (storePrimary w) primary w
+unfolding storePrimary primary
+primary-puts w = record { old = λ r. refl; new = refl }
 
 pub number-puts : (n : ℕ) → Puts (storeNumber n) number n
 unfolding storeNumber number

@@ -77,17 +77,13 @@ pub if-put : (c : Bool) (s : Store) (d : Desk) → c ≡ true → run (storeIf c
 unfolding storeIf run
 if-put c s d q = rw q
 
-pub change-not : (c : Bool) (s : Store) (d : Desk) → c ≡ false → run (diffIf c s (d .rec)) d ≡ d
-unfolding diffIf run
-change-not c s d q = rw q
+pub change-same : (s : Store) (d : Desk) → getD (d .rec) (s .at) 0 ≡ s .word → run (whereChanged s (d .rec)) d ≡ d
+unfolding whereChanged run
+change-same s d e = rw (eq-eqb (getD (d .rec) (s .at) 0) (s .word) e)
 
-pub change-same : (c : Bool) (s : Store) (d : Desk) → c ≡ true → getD (d .rec) (s .at) 0 ≡ s .word → run (diffIf c s (d .rec)) d ≡ d
-unfolding diffIf whereChanged run
-change-same c s d q e = rw (q, eq-eqb (getD (d .rec) (s .at) 0) (s .word) e)
-
-pub change-put : (c : Bool) (s : Store) (d : Desk) → c ≡ true → (getD (d .rec) (s .at) 0 ≡ s .word → ⊥) → run (diffIf c s (d .rec)) d ≡ putTo s d
-unfolding diffIf whereChanged run
-change-put c s d q e = rw (q, ne-eqb (getD (d .rec) (s .at) 0) (s .word) e)
+pub change-put : (s : Store) (d : Desk) → (getD (d .rec) (s .at) 0 ≡ s .word → ⊥) → run (whereChanged s (d .rec)) d ≡ putTo s d
+unfolding whereChanged run
+change-put s d e = rw (ne-eqb (getD (d .rec) (s .at) 0) (s .word) e)
 
 -- ---- with no pen
 

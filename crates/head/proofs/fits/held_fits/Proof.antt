@@ -22,7 +22,7 @@ all-held-requires : tie.Need-all-held-requires
 all-held-requires c κs = search needs
 
 returns-2 : tie.Need-returns-2
-returns-2 c = search needs
+returns-2 c = c .all-held .ensures
 
 pub held-fits-spec : {M : Type 1} → statement M
 held-fits-spec =

@@ -1,5 +1,6 @@
 -- The short test says that no rule is broken; else the first broken one is looked for.
 use mathlib.Core.Path.{sym, _∙_}
+use native.Mathlib.Omega.{arith}
 use borrow.Author.Tests.{eqb-true}
 use borrow.Author.Needs.{needs}
 use Rattle.state.proofs.rules.broken.Statement.{statement}
@@ -9,7 +10,7 @@ formed-kept-requires : tie.Need-formed-kept-requires
 formed-kept-requires c κs = search needs
 
 keeps-all-requires : tie.Need-keeps-all-requires
-keeps-all-requires c κs = search needs
+keeps-all-requires c κs = (omega arith, omega arith, c .formed-kept .ensures)
 
 returns : tie.Need-returns
 returns c = sym (eqb-true _ 0 (sym (c .before .keeps-all .ensures) ∙ c .if1 .taken))

@@ -4,8 +4,8 @@ use Prim.Native.Nat.{_≤_, _-_}
 use mathlib.Core.Path.{_≡_, sym, _∙_}
 use lib.ListN.{length, length-set}
 use Rattle.loops.proofs.Laws.Copies.{Copied, copied-none, copied-next, copied-all}
-use Rattle.trial.proofs.copy.Statement.{statement}
-use Rattle.trial.proofs.copy.Tie as tie
+use Rattle.recovered.proofs.copy.Statement.{statement}
+use Rattle.recovered.proofs.copy.Tie as tie
 
 abbrev Inv-loop : tie.InvT-loop
 Inv-loop rec to₀ i₀ to i = (i ≤ 52) × (length to ≡ 52) × Copied 0 rec to i

@@ -6,8 +6,8 @@ use native.Mathlib.Omega.{arith}
 use Prim.Native.Nat.{_≤_, _-_}
 use Rattle.loops.specs.Below.{foldBelow}
 use Rattle.recovery.specs.Recover.{higher, greatest}
-use Rattle.trial.proofs.greatest.Statement.{statement}
-use Rattle.trial.proofs.greatest.Tie as tie
+use Rattle.recovered.proofs.greatest.Statement.{statement}
+use Rattle.recovered.proofs.greatest.Tie as tie
 
 abbrev Inv-loop : tie.InvT-loop
 Inv-loop rec top₀ i₀ top i = (i ≤ 16) × (top ≡ foldBelow i (higher rec) top₀)

@@ -1,14 +1,15 @@
--- At each turn the record and the pen are those after the words passed.
+-- At each turn the record and the pen are those after the words passed, and the words in order are the fields.
 use native.Mathlib.Omega.{arith}
 use Prim.Native.Nat.{_≤_, _-_}
-use mathlib.Core.Path.{_≡_, sym, _∙_}
+use mathlib.Core.Path.{_≡_, sym, ap, _∙_}
+use mathlib.Core.List.{List}
 use lib.ListN.{length}
 use Rattle.store.specs.Desk.{desk}
-use Rattle.store.specs.Program.{stepBy, exec, upTo}
+use Rattle.store.specs.Program.{Step, stepBy, exec, upTo}
 use Rattle.store.proofs.Laws.Program.{steps-start, steps-again, steps-done}
-use Rattle.mending.specs.Toward.{wordTo, storeProgram}
-use Rattle.mending.proofs.store_all.Statement.{statement}
-use Rattle.mending.proofs.store_all.Tie as tie
+use Rattle.record.proofs.Laws.Words.{wordTo, words-fields}
+use Rattle.record.proofs.layout.change_record.Statement.{statement}
+use Rattle.record.proofs.layout.change_record.Tie as tie
 
 abbrev Inv-loop : tie.InvT-loop
 Inv-loop rec₀ to p₀ k₀ rec p k = (k ≤ 52) × (length rec ≡ 52) × (desk rec p ≡ exec (upTo k (wordTo to)) (desk rec₀ p₀))
@@ -42,11 +43,10 @@ same-length : tie.Need-same-length Inv-loop μ-loop
 same-length c = c .before .loop .inv .1 ∙ sym (c .before .before .before .before .pre .0)
 
 returns : tie.Need-returns Inv-loop μ-loop
-unfolding storeProgram
-returns c = c .before .loop .inv .2 ∙ steps-done (wordTo _) _ _ _ (c .before .loop .inv .0) (c .loop-test .left)
+returns c = c .before .loop .inv .2 ∙ steps-done (wordTo _) _ _ _ (c .before .loop .inv .0) (c .loop-test .left) ∙ ap (λ (p : List Step). exec p (desk (c .before .before .before .before .args .rec .now) (c .before .before .before .before .args .pen))) (words-fields _)
 
-pub store-all-spec : {M : Type 1} → statement M
-store-all-spec =
+pub change-record-spec : {M : Type 1} → statement M
+change-record-spec =
     tie.close
     (tie.spec
     Inv-loop

@@ -5,9 +5,9 @@ use mathlib.Core.Path.{_≡_, sym, _∙_}
 use lib.ListN.{length}
 use Rattle.store.specs.Program.{after, upTo}
 use Rattle.recovery.specs.Recover.{wipeStep}
-use Rattle.trial.proofs.Laws.Steps.{taken-none, taken-again, taken-all}
-use Rattle.trial.proofs.wipe_all.Statement.{statement}
-use Rattle.trial.proofs.wipe_all.Tie as tie
+use Rattle.recovered.proofs.Laws.Steps.{taken-none, taken-again, taken-all}
+use Rattle.recovered.proofs.wipe_all.Statement.{statement}
+use Rattle.recovered.proofs.wipe_all.Tie as tie
 
 abbrev Inv-loop : tie.InvT-loop
 Inv-loop to₀ i₀ to i = (i ≤ 16) × (length to ≡ 52) × (to ≡ after (upTo i wipeStep) to₀)

@@ -1,8 +1,8 @@
 -- Last primary is set where q is in it, which is what the step makes.
-use Rattle.trial.proofs.Laws.Steps.{form-taken, form-left}
+use Rattle.recovered.proofs.Laws.Steps.{form-taken, form-left}
 use borrow.Author.Needs.{needs}
-use Rattle.trial.proofs.form_one.Statement.{statement}
-use Rattle.trial.proofs.form_one.Tie as tie
+use Rattle.recovered.proofs.formed_one.Statement.{statement}
+use Rattle.recovered.proofs.formed_one.Tie as tie
 
 primary-requires : tie.Need-primary-requires
 primary-requires c κs = search needs
@@ -25,8 +25,8 @@ same-length-2 c = search needs
 returns-2 : tie.Need-returns-2
 returns-2 c = form-left _ _ (c .before .before .primary .ensures) (c .before .has-head .ensures) (c .if1 .left)
 
-pub form-one-spec : {M : Type 1} → statement M
-form-one-spec =
+pub formed-one-spec : {M : Type 1} → statement M
+formed-one-spec =
     tie.close
     (tie.spec
     primary-requires

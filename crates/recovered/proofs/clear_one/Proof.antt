@@ -1,9 +1,9 @@
 -- The place is cleared where it is at or below last primary, which is what the step makes.
-use Rattle.trial.proofs.Laws.Steps.{clear-taken, clear-left}
+use Rattle.recovered.proofs.Laws.Steps.{clear-taken, clear-left}
 use native.Mathlib.Omega.{arith}
 use borrow.Author.Needs.{needs}
-use Rattle.trial.proofs.clear_one.Statement.{statement}
-use Rattle.trial.proofs.clear_one.Tie as tie
+use Rattle.recovered.proofs.clear_one.Statement.{statement}
+use Rattle.recovered.proofs.clear_one.Tie as tie
 
 place-at-requires : tie.Need-place-at-requires
 place-at-requires c κs = search needs

@@ -1,8 +1,8 @@
 -- The marks are wiped where the place is free, which is what the step makes.
-use Rattle.trial.proofs.Laws.Steps.{wipe-taken, wipe-left}
+use Rattle.recovered.proofs.Laws.Steps.{wipe-taken, wipe-left}
 use borrow.Author.Needs.{needs}
-use Rattle.trial.proofs.wipe_one.Statement.{statement}
-use Rattle.trial.proofs.wipe_one.Tie as tie
+use Rattle.recovered.proofs.wipe_one.Statement.{statement}
+use Rattle.recovered.proofs.wipe_one.Tie as tie
 
 place-at-requires : tie.Need-place-at-requires
 place-at-requires c κs = search needs

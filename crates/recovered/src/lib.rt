@@ -30,7 +30,7 @@ fn greatest(rec: &[u64]) -> u64
     top
 }
 
-fn form_one(to: &mut [u64], q: usize)
+fn formed_one(to: &mut [u64], q: usize)
     requires { ⌜ (length (now to) ≡ 52) × (q < 16) ⌝ }
     ensures { λ r. ⌜ now (to .exit) ≡ apply (formedStep q (now (to .entry))) (now (to .entry)) ⌝ }
 {
@@ -58,12 +58,12 @@ fn wipe_one(to: &mut [u64], i: usize)
     }
 }
 
-fn form_all(to: &mut [u64])
+fn formed_all(to: &mut [u64])
     requires { ⌜ length (now to) ≡ 52 ⌝ }
     ensures { λ r. ⌜ now (to .exit) ≡ after (upTo 16 formedStep) (now (to .entry)) ⌝ }
 {
     for q in 0..Group::HEADS {
-        form_one(to, q);
+        formed_one(to, q);
     }
 }
 
@@ -104,7 +104,7 @@ pub fn mended(rec: &[u64]) -> [u64; Group::WORDS]
     let top = greatest(rec);
     let mut to = copy(rec);
     set_number(&mut to, top);
-    form_all(&mut to);
+    formed_all(&mut to);
     clear_all(&mut to);
     wipe_all(&mut to);
     to

@@ -1,2 +1,0 @@
--- The storing of a recovered record that was made on a copy.
-pub mod Toward
