@@ -10,15 +10,15 @@ use lib.Dec.{eqb, leb}
 use lib.ListN.{length}
 use Rattle.group.specs.Heads.{has}
 use Rattle.group.specs.Words.{rank}
-use Rattle.store.specs.Desk.{Store, Desk, desk, stored, apply, whereChanged, diffIf, run}
+use Rattle.store.specs.Desk.{Store, Desk, desk, apply, whereChanged, diffIf, run}
 use Rattle.store.specs.declared.Pen.{Pen}
 use Rattle.store.specs.Program.{Step, exec, script, after, upTo}
 use Rattle.store.proofs.Laws.Program.{exec-run, script-append, script-one, upTo-none, upTo-next, after-one}
 use Rattle.record.specs.Layout.{settings, entered, number, primary, formedFor, placeAt, marksAt, storeSettings, storeEntered, storeNumber, storePrimary, storeFormed, storePlace, storeMarks, storeRecord}
 use Rattle.record.proofs.Laws.Layout.{Puts, settings-puts, entered-puts, primary-puts, formed-puts, place-puts, marks-puts, not-stored, formed-stored, place-stored, marks-stored}
 use Rattle.recovery.specs.Recover.{raiseStep, formedStep, clearStep, wipeStep, mendProgram, mended}
-use Rattle.recovery.proofs.Laws.Phases.{phase, after-phase, phase-keeps, made-keeps}
-use Rattle.recovery.proofs.Laws.Fields.{formed-there, place-there, marks-there}
+use Rattle.recovery.proofs.Laws.Phases.{phase, after-phase}
+use Rattle.recovery.proofs.Laws.Fields.{formed-there, place-there, marks-there, keeps-formed, keeps-places, keeps-marks}
 use Rattle.recovery.proofs.Laws.Mended.{formed-made, clear-made, wipe-made, raised, formedSet, placesCleared, raised-length, formed-set-length, places-cleared-length, raised-reads, formed-set-reads, places-cleared-reads, mended-reads}
 
 -- a store of v where asked is the store of what the field then is
@@ -55,17 +55,6 @@ placeTo t i = whereChanged (storePlace i (placeAt t i))
 abbrev marksTo : List ℕ → ℕ → Step
 marksTo t i = whereChanged (storeMarks i (marksAt t i))
 
--- what the stores of the first n steps leave
-
-before-formed : (x : List ℕ) (g : List ℕ → ℕ) (n : ℕ) → ((j : ℕ) (y : List ℕ) → j < n → length y ≡ length x → g (stored (storeFormed j (primary y)) y) ≡ g y) → g (phase n formedStep x) ≡ g x
-before-formed x g n k = phase-keeps formedStep x g n (λ j y b l. made-keeps g (has (primary y) j) (stored (storeFormed j (primary y)) y) y (formed-made j y) (k j y b l))
-
-before-clear : (x : List ℕ) (g : List ℕ → ℕ) (n : ℕ) → ((j : ℕ) (y : List ℕ) → j < n → length y ≡ length x → g (stored (storePlace j 0) y) ≡ g y) → g (phase n clearStep x) ≡ g x
-before-clear x g n k = phase-keeps clearStep x g n (λ j y b l. made-keeps g (leb (rank (placeAt y j)) (rank (primary y))) (stored (storePlace j 0) y) y (clear-made j y) (k j y b l))
-
-before-wipe : (x : List ℕ) (g : List ℕ → ℕ) (n : ℕ) → ((j : ℕ) (y : List ℕ) → j < n → length y ≡ length x → g (stored (storeMarks j 0) y) ≡ g y) → g (phase n wipeStep x) ≡ g x
-before-wipe x g n k = phase-keeps wipeStep x g n (λ j y b l. made-keeps g (eqb (placeAt y j) 0) (stored (storeMarks j 0) y) y (wipe-made j y) (k j y b l))
-
 module _ (t x : List ℕ) (long : length x ≡ 52) where
   same-formed : ((q : ℕ) → q < 16 → formedFor t q ≡ cond (has (primary x) q) (primary x) (formedFor x q)) → script (upTo 16 formedStep) x ≡ script (upTo 16 (formedTo t)) x
   unfolding formedStep
@@ -73,10 +62,10 @@ module _ (t x : List ℕ) (long : length x ≡ 52) where
       same-diff (storeFormed q) (λ r. formedFor r q) (formed-puts q) (has (primary y) q) (primary y) (formedFor t q) y (is q h ∙ rw (primary-before q h, formed-before q h) refl))
     where
       primary-before : (q : ℕ) → q < 16 → primary (phase q formedStep x) ≡ primary x
-      primary-before q h = before-formed x primary q (λ j y b l. formed-stored y (l ∙ long) j (primary y) (omega arith) .primary-is)
+      primary-before q h = keeps-formed formedStep primary formed-made (λ y l q w h. formed-stored y l q w h .primary-is) x long q primary (λ y l j w b. formed-stored y l j w (omega arith) .primary-is)
 
       formed-before : (q : ℕ) → q < 16 → formedFor (phase q formedStep x) q ≡ formedFor x q
-      formed-before q h = before-formed x (λ y. formedFor y q) q (λ j y b l. formed-there y (l ∙ long) j (primary y) (omega arith) q h (λ e. lt-irrefl j (omega arith)))
+      formed-before q h = keeps-formed formedStep primary formed-made (λ y l q w h. formed-stored y l q w h .primary-is) x long q (λ y. formedFor y q) (λ y l j w b. formed-there y l j w (omega arith) q h (λ e. lt-irrefl j (omega arith)))
 
   same-places : ((i : ℕ) → i < 16 → placeAt t i ≡ cond (leb (rank (placeAt x i)) (rank (primary x))) 0 (placeAt x i)) → script (upTo 16 clearStep) x ≡ script (upTo 16 (placeTo t)) x
   unfolding clearStep
@@ -84,10 +73,10 @@ module _ (t x : List ℕ) (long : length x ≡ 52) where
       same-diff (storePlace i) (λ r. placeAt r i) (place-puts i) (leb (rank (placeAt y i)) (rank (primary y))) 0 (placeAt t i) y (is i h ∙ rw (primary-before i h, place-before i h) refl))
     where
       primary-before : (i : ℕ) → i < 16 → primary (phase i clearStep x) ≡ primary x
-      primary-before i h = before-clear x primary i (λ j y b l. place-stored y (l ∙ long) j 0 (omega arith) .primary-is)
+      primary-before i h = keeps-places clearStep clear-made x long i primary (λ y l j w b. place-stored y l j w (omega arith) .primary-is)
 
       place-before : (i : ℕ) → i < 16 → placeAt (phase i clearStep x) i ≡ placeAt x i
-      place-before i h = before-clear x (λ y. placeAt y i) i (λ j y b l. place-there y (l ∙ long) j 0 (omega arith) i h (λ e. lt-irrefl j (omega arith)))
+      place-before i h = keeps-places clearStep clear-made x long i (λ y. placeAt y i) (λ y l j w b. place-there y l j w (omega arith) i h (λ e. lt-irrefl j (omega arith)))
 
   same-marks : ((i : ℕ) → i < 16 → marksAt t i ≡ cond (eqb (placeAt x i) 0) 0 (marksAt x i)) → script (upTo 16 wipeStep) x ≡ script (upTo 16 (marksTo t)) x
   unfolding wipeStep
@@ -95,10 +84,10 @@ module _ (t x : List ℕ) (long : length x ≡ 52) where
       same-diff (storeMarks i) (λ r. marksAt r i) (marks-puts i) (eqb (placeAt y i) 0) 0 (marksAt t i) y (is i h ∙ rw (place-before i h, marks-before i h) refl))
     where
       place-before : (i : ℕ) → i < 16 → placeAt (phase i wipeStep x) i ≡ placeAt x i
-      place-before i h = before-wipe x (λ y. placeAt y i) i (λ j y b l. marks-stored y (l ∙ long) j 0 (omega arith) .place-is i h)
+      place-before i h = keeps-marks wipeStep wipe-made x long i (λ y. placeAt y i) (λ y l j m b. marks-stored y l j m (omega arith) .place-is i h)
 
       marks-before : (i : ℕ) → i < 16 → marksAt (phase i wipeStep x) i ≡ marksAt x i
-      marks-before i h = before-wipe x (λ y. marksAt y i) i (λ j y b l. marks-there y (l ∙ long) j 0 (omega arith) i h (λ e. lt-irrefl j (omega arith)))
+      marks-before i h = keeps-marks wipeStep wipe-made x long i (λ y. marksAt y i) (λ y l j m b. marks-there y l j m (omega arith) i h (λ e. lt-irrefl j (omega arith)))
 
 -- ---- all of them
 
