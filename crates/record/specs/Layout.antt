@@ -1,9 +1,8 @@
 -- Which word holds what (document 01, "The record"): "52 words of 64 bits." Only this file and the code of `layout` know it.
-use mathlib.Core.List.{List, _∷_, _++_}
+use mathlib.Core.List.{List}
 use Prim.Native.Nat.{ℕ, _+_, _/_, _%_}
 use lib.ListN.{getD}
-use Rattle.store.specs.Desk.{Store, store, whereChanged}
-use Rattle.store.specs.Program.{Step, upTo}
+use Rattle.store.specs.Desk.{Store, store}
 
 abbrev pub word : List ℕ → ℕ → ℕ
 word r i = getD r i 0
@@ -68,14 +67,3 @@ storePlace i w = store (20 + i) w
 
 unfoldable pub storeMarks : ℕ → ℕ → Store
 storeMarks i m = store (36 + i) m
-
--- a record made to be t, field by field in the order of its words: "It stores only words that change"
-unfoldable pub storeRecord : List ℕ → List Step
-storeRecord t =
-    whereChanged (storeSettings (settings t))
-    ∷ (whereChanged (storeEntered (entered t))
-    ∷ (whereChanged (storeNumber (number t))
-    ∷ (whereChanged (storePrimary (primary t))
-    ∷ (upTo 16 (λ q. whereChanged (storeFormed q (formedFor t q)))
-    ++ (upTo 16 (λ i. whereChanged (storePlace i (placeAt t i)))
-    ++ upTo 16 (λ i. whereChanged (storeMarks i (marksAt t i))))))))

@@ -10,7 +10,8 @@ ghost use lib.ListN.{length};
 ghost use Rattle.store.specs.Desk.{desk, stored, putTo, run, storeIf, whereChanged};
 ghost use Rattle.store.specs.Program.{exec};
 ghost use Rattle.record.specs.Layout.{settings, core, least, own, entered, number, primary, formedFor, placeAt, marksAt};
-ghost use Rattle.record.specs.Layout.{storeEntered, storeNumber, storePrimary, storeFormed, storePlace, storeMarks, storeRecord};
+ghost use Rattle.record.specs.Layout.{storeEntered, storeNumber, storePrimary, storeFormed, storePlace, storeMarks};
+ghost use Rattle.record.specs.Replacing.{storeRecord};
 
 // W0, Q and own head, in one word.
 pub fn settings(rec: &[u64]) -> u64
@@ -157,7 +158,7 @@ pub fn change_marks(rec: &mut [u64], pen: Pen, i: usize, m: u64) -> Pen
     change(rec, pen, 36 + i, m)
 }
 
-// Makes the record be `to`, field by field in the order of its words.
+// Makes the record be `to`, with at most the pen's stores: those of the words that differ, in order, which is the order of the fields.
 pub fn change_record(rec: &mut [u64], pen: Pen, to: &[u64]) -> Pen
     requires { ⌜ (length (now rec) ≡ 52) × (length (now to) ≡ 52) ⌝ }
     ensures { λ r. ⌜ desk (now (rec .exit)) r ≡ exec (storeRecord (now (to .entry))) (desk (now (rec .entry)) pen) ⌝ }

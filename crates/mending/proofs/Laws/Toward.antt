@@ -14,7 +14,8 @@ use Rattle.store.specs.Desk.{Store, Desk, desk, apply, whereChanged, diffIf, ru
 use Rattle.store.specs.declared.Pen.{Pen}
 use Rattle.store.specs.Program.{Step, exec, script, after, upTo}
 use Rattle.store.proofs.Laws.Program.{exec-run, script-append, script-one, upTo-none, upTo-next, after-one}
-use Rattle.record.specs.Layout.{settings, entered, number, primary, formedFor, placeAt, marksAt, storeSettings, storeEntered, storeNumber, storePrimary, storeFormed, storePlace, storeMarks, storeRecord}
+use Rattle.record.specs.Layout.{settings, entered, number, primary, formedFor, placeAt, marksAt, storeSettings, storeEntered, storeNumber, storePrimary, storeFormed, storePlace, storeMarks}
+use Rattle.record.specs.Replacing.{storeRecord}
 use Rattle.record.proofs.Laws.Layout.{Puts, settings-puts, entered-puts, primary-puts, formed-puts, place-puts, marks-puts, not-stored, formed-stored, place-stored, marks-stored}
 use Rattle.recovery.specs.Recover.{raiseStep, formedStep, clearStep, wipeStep, mendProgram, mended}
 use Rattle.recovery.proofs.Laws.Phases.{phase, after-phase}
@@ -44,7 +45,7 @@ same-steps f g r (suc n) e =
     (same-then (upTo n f) (f n ∷ []) (upTo n g) (g n ∷ []) r (same-steps f g r n (λ i h. e i (omega arith)))
     (script-one (f n) (after (upTo n f) r) ∙ rw (after-phase n f r) (e n (omega arith)) ∙ sym (script-one (g n) (after (upTo n f) r))))
 
--- ---- the steps of a kind: each finds what it reads as it was before the first
+-- ---- the fields of a kind made to be those of t
 
 abbrev formedTo : List ℕ → ℕ → Step
 formedTo t q = whereChanged (storeFormed q (formedFor t q))
@@ -54,6 +55,8 @@ placeTo t i = whereChanged (storePlace i (placeAt t i))
 
 abbrev marksTo : List ℕ → ℕ → Step
 marksTo t i = whereChanged (storeMarks i (marksAt t i))
+
+-- each step finds what it reads as it was before the first of its kind
 
 module _ (t x : List ℕ) (long : length x ≡ 52) where
   same-formed : ((q : ℕ) → q < 16 → formedFor t q ≡ cond (has (primary x) q) (primary x) (formedFor x q)) → script (upTo 16 formedStep) x ≡ script (upTo 16 (formedTo t)) x

@@ -6,7 +6,8 @@ use native.Mathlib.Omega.{arith}
 use Rattle.store.specs.Desk.{store, whereChanged}
 use Rattle.store.specs.Program.{Step, upTo}
 use Rattle.store.proofs.Laws.Program.{upTo-none, upTo-next}
-use Rattle.record.specs.Layout.{word, settings, entered, number, primary, formedFor, placeAt, marksAt, storeSettings, storeEntered, storeNumber, storePrimary, storeFormed, storePlace, storeMarks, storeRecord}
+use Rattle.record.specs.Layout.{word, settings, entered, number, primary, formedFor, placeAt, marksAt, storeSettings, storeEntered, storeNumber, storePrimary, storeFormed, storePlace, storeMarks}
+use Rattle.record.specs.Replacing.{storeRecord}
 
 -- word k made to be that of t
 unfoldable pub wordTo : List ℕ → ℕ → Step

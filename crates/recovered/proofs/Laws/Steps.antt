@@ -27,12 +27,12 @@ module _ (r : List ℕ) (q : ℕ) {p : ℕ} {b : Bool} (is : p ≡ primary r) (t
   among : has (primary r) q ≡ b
   among = sym (test ∙ ap (λ (w : ℕ). has w q) is)
 
-  pub form-taken : {y : List ℕ} → b ≡ true → y ≡ stored (storeFormed q p) r → y ≡ apply (formedStep q r) r
-  form-taken t e =
+  pub formed-taken : {y : List ℕ} → b ≡ true → y ≡ stored (storeFormed q p) r → y ≡ apply (formedStep q r) r
+  formed-taken t e =
       e ∙ ap (λ (w : ℕ). stored (storeFormed q w) r) is ∙ by-test (has (primary r) q) (stored (storeFormed q (primary r)) r) r (formed-made q r) (among ∙ t)
 
-  pub form-left : b ≡ false → r ≡ apply (formedStep q r) r
-  form-left t = by-test (has (primary r) q) (stored (storeFormed q (primary r)) r) r (formed-made q r) (among ∙ t)
+  pub formed-left : b ≡ false → r ≡ apply (formedStep q r) r
+  formed-left t = by-test (has (primary r) q) (stored (storeFormed q (primary r)) r) r (formed-made q r) (among ∙ t)
 
 module _ (r : List ℕ) (i : ℕ) {w p a b : ℕ} (place : w ≡ placeAt r i) (above : a ≡ rank w) (is : p ≡ primary r) (below : b ≡ rank p) where
   past : leb (rank (placeAt r i)) (rank (primary r)) ≡ leb a b
