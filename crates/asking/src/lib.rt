@@ -7,7 +7,7 @@ ghost use Rattle.asking.specs.Asking.{to_of, from_of, in_group, group_what, what
 use deeds::What;
 use events::{Event, read_event};
 use group::Group;
-use hex::line_end;
+use hexadecimal::line_end;
 use views::{enter_what, list_view, view_what};
 
 // Where the bench stands. The lent lists have more room than is used: these are the counts. at is where the next line begins, stop the end of the last whole line

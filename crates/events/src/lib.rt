@@ -5,7 +5,7 @@ ghost use Rattle.lines.specs.Frame.{two, four};
 ghost use Rattle.events.specs.Events.{starts, group_event, view_event, enter_event, state_event, decide_event, attempt_event, form_event, cut_event, recover_event, event_of};
 
 use group::{Answer, Group};
-use hex::{byte_at, digits};
+use hexadecimal::{byte_at, digits};
 use start::start;
 
 #[derive(Drop)]

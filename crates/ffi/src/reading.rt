@@ -51,7 +51,7 @@ fn as_numbers(line: Line, state: State, left: usize) -> LineRead
 fn left_after(bytes: &[u8]) -> usize
     ensures { result ≡ length (rest_of bytes.now) }
 {
-    let rest = hex::rest(bytes);
+    let rest = hexadecimal::rest(bytes);
     rest.len()
 }
 

@@ -9,7 +9,7 @@ ghost use Rattle.printing.specs.Texts.{refused_text, said_text, told_text, word_
 use codes::refusal_code;
 use deeds::Reply;
 use group::Answer;
-use hex::line_end;
+use hexadecimal::line_end;
 use shown::{put_field, put_heads};
 use text::put;
 

@@ -8,7 +8,7 @@ ghost use Rattle.lines.specs.Reading.{breaks as breaks_of};
 
 use crate::field::{four_at, six_at, words_at};
 use group::Group;
-use hex::{digits, line_end, put_frame};
+use hexadecimal::{digits, line_end, put_frame};
 use lines::{Line, Read};
 use state::{State, broken, no_state};
 

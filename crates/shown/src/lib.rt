@@ -3,7 +3,7 @@ ghost use Rattle.std.specs.Prelude.{◌≡◌, ◌++◌, ◌∷◌, [], ◌+◌,
 ghost use Rattle.lines.specs.Hex.{hex_of};
 ghost use Rattle.shown.specs.Shown.{field, heads_text, number_text, session_text, head_text, values_text, attempt_text, state_text, refused_text, shown, room};
 
-use hex::digit_of;
+use hexadecimal::digit_of;
 use lines::{Line, Read};
 use text::{put, put_decimal};
 

@@ -5,7 +5,7 @@ ghost use Rattle.lines.specs.Walk.{whole_lines, begun, last_line};
 ghost use Rattle.shown.specs.Shown.{shown, printed, room};
 ghost use Rattle.stream.specs.Parts.{Counts};
 
-use hex::line_end;
+use hexadecimal::line_end;
 use reader::judge;
 use shown::{print, print_refused};
 

@@ -4,7 +4,7 @@ ghost use Rattle.std.proofs.lemmas.List.Edits.{sets};
 ghost use Rattle.lines.specs.Writing.{bytes2, bytes4, bytes6, flat, head_bytes, place_bytes, attempt_line, state_line, spell, wrote, write_attempt, write_state};
 
 use group::Group;
-use hex::digit_of;
+use hexadecimal::digit_of;
 use state::State;
 
 // The most characters of a state line, and those of an attempt line.

@@ -3,8 +3,8 @@ use Prim.Native.Nat.{◌<◌}
 use Rattle.lines.proofs.Laws.Hex.{nib-lt, unhex-at}
 use borrow.Author.Rules.{rules}
 use native.Mathlib.Omega.{arith}
-use Rattle.hex.proofs.byte_at.Statement.{statement}
-use Rattle.hex.proofs.byte_at.Tie as tie
+use Rattle.hexadecimal.proofs.byte_at.Statement.{statement}
+use Rattle.hexadecimal.proofs.byte_at.Tie as tie
 
 mul-nibble : tie.Need-overflow-mul-nibble
 mul-nibble c = search rules

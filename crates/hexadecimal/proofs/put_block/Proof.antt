@@ -6,8 +6,8 @@ use lib.ListN.{length, length-set, get_or, take}
 use native.Mathlib.Omega.{arith}
 use Rattle.lines.specs.Hex.{unhex}
 use Rattle.lines.proofs.Laws.Hex.{nib-lt, decoded-pair}
-use Rattle.hex.proofs.put_block.Statement.{statement}
-use Rattle.hex.proofs.put_block.Tie as tie
+use Rattle.hexadecimal.proofs.put_block.Statement.{statement}
+use Rattle.hexadecimal.proofs.put_block.Tie as tie
 
 abbrev invariant-loop : tie.invariant-loop
 invariant-loop s a₀ at n k₀ a k = (k ≤ 16) × (length a ≡ length a₀) × (take (at + k) a ≡ take (at + k) (unhex s))

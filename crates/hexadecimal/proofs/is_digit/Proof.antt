@@ -1,8 +1,8 @@
 -- The code is the definition.
 use mathlib.Core.Path.{refl}
 use Rattle.lines.specs.Hex.{is_digit}
-use Rattle.hex.proofs.is_digit.Statement.{statement}
-use Rattle.hex.proofs.is_digit.Tie as tie
+use Rattle.hexadecimal.proofs.is_digit.Statement.{statement}
+use Rattle.hexadecimal.proofs.is_digit.Tie as tie
 
 returns : tie.Need-returns
 unfolding is_digit

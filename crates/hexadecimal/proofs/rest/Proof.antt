@@ -6,8 +6,8 @@ use Rattle.lines.specs.Hex.{rest_of, line_end}
 use Rattle.lines.proofs.Laws.Hex.{part-drop}
 use borrow.Author.Rules.{rules}
 use native.Mathlib.Omega.{arith}
-use Rattle.hex.proofs.rest.Statement.{statement}
-use Rattle.hex.proofs.rest.Tie as tie
+use Rattle.hexadecimal.proofs.rest.Statement.{statement}
+use Rattle.hexadecimal.proofs.rest.Tie as tie
 
 line-end-requires : tie.Need-line-end-requires
 line-end-requires c κs = search rules

@@ -2,8 +2,8 @@
 use mathlib.Core.Path.{refl}
 use Rattle.lines.specs.Hex.{nib}
 use borrow.Author.Rules.{rules}
-use Rattle.hex.proofs.nibble.Statement.{statement}
-use Rattle.hex.proofs.nibble.Tie as tie
+use Rattle.hexadecimal.proofs.nibble.Statement.{statement}
+use Rattle.hexadecimal.proofs.nibble.Tie as tie
 
 mul-result : tie.Need-overflow-mul-result
 mul-result c = search rules

@@ -2,8 +2,8 @@
 use Rattle.lines.specs.Hex.{digit}
 use borrow.Author.Tests.{lt-ltb, le-ltb}
 use borrow.Author.Rules.{rules}
-use Rattle.hex.proofs.digit_of.Statement.{statement}
-use Rattle.hex.proofs.digit_of.Tie as tie
+use Rattle.hexadecimal.proofs.digit_of.Statement.{statement}
+use Rattle.hexadecimal.proofs.digit_of.Tie as tie
 
 add-result : tie.Need-overflow-add-result
 add-result c = search rules

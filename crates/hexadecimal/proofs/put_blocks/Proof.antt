@@ -4,8 +4,8 @@ use Prim.Native.Nat.{◌/◌, ◌≤◌, ◌-◌}
 use lib.ListN.{length, take}
 use native.Mathlib.Omega.{arith}
 use Rattle.lines.specs.Hex.{unhex}
-use Rattle.hex.proofs.put_blocks.Statement.{statement}
-use Rattle.hex.proofs.put_blocks.Tie as tie
+use Rattle.hexadecimal.proofs.put_blocks.Statement.{statement}
+use Rattle.hexadecimal.proofs.put_blocks.Tie as tie
 
 abbrev invariant-loop : tie.invariant-loop
 invariant-loop s a₀ n i₀ a i = (i ≤ length s / 2) × (length a ≡ length a₀) × (take i a ≡ take i (unhex s))

@@ -6,8 +6,8 @@ use lib.ListN.{get_or}
 use native.Mathlib.Omega.{arith}
 use Rattle.loops.specs.Below.{any_below}
 use Rattle.loops.proofs.Laws.Tests.{any_none, any-again, any-end}
-use Rattle.hex.proofs.has_newline.Statement.{statement}
-use Rattle.hex.proofs.has_newline.Tie as tie
+use Rattle.hexadecimal.proofs.has_newline.Statement.{statement}
+use Rattle.hexadecimal.proofs.has_newline.Tie as tie
 
 abbrev invariant-loop : tie.invariant-loop
 invariant-loop s at found₀ k₀ found k = (k ≤ 32) × (found ≡ any_below k (λ j. eqb (get_or s (at + j) 0) 10))

@@ -5,8 +5,8 @@ use lib.ListN.{length, length-set, take}
 use native.Mathlib.Omega.{arith}
 use Rattle.lines.specs.Hex.{unhex}
 use Rattle.lines.proofs.Laws.Hex.{decoded-more, decoded-all}
-use Rattle.hex.proofs.put_rest.Statement.{statement}
-use Rattle.hex.proofs.put_rest.Tie as tie
+use Rattle.hexadecimal.proofs.put_rest.Statement.{statement}
+use Rattle.hexadecimal.proofs.put_rest.Tie as tie
 
 abbrev invariant-loop : tie.invariant-loop
 invariant-loop s a₀ from i₀ a i = (i ≤ length s / 2) × (length a ≡ length a₀) × (take i a ≡ take i (unhex s))

@@ -8,8 +8,8 @@ use Rattle.lines.specs.Hex.{is_digit}
 use Rattle.lines.proofs.Laws.Hex.{every_take}
 use borrow.Author.Rules.{rules}
 use native.Mathlib.Omega.{arith}
-use Rattle.hex.proofs.digits.Statement.{statement}
-use Rattle.hex.proofs.digits.Tie as tie
+use Rattle.hexadecimal.proofs.digits.Statement.{statement}
+use Rattle.hexadecimal.proofs.digits.Tie as tie
 
 abbrev invariant-loop : tie.invariant-loop
 invariant-loop s ok₀ i₀ ok i = (i ≤ length s) × (ok ≡ every is_digit (take i s))

@@ -7,8 +7,8 @@ use Prim.Native.Nat.{◌≤◌, ◌-◌, ◌+◌}
 use Rattle.lines.specs.Hex.{line_end}
 use borrow.Author.Rules.{rules}
 use native.Mathlib.Omega.{arith}
-use Rattle.hex.proofs.line_end.Statement.{statement}
-use Rattle.hex.proofs.line_end.Tie as tie
+use Rattle.hexadecimal.proofs.line_end.Statement.{statement}
+use Rattle.hexadecimal.proofs.line_end.Tie as tie
 
 abbrev invariant-loop : tie.invariant-loop
 invariant-loop s i₀ i = (i ≤ length s) × (line_end s ≡ i + line_end (drop i s))

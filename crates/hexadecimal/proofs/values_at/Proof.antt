@@ -7,8 +7,8 @@ use native.Mathlib.Omega.{arith}
 use borrow.Author.Rules.{rules}
 use Rattle.lines.specs.Hex.{nib}
 use Rattle.lines.proofs.Laws.Hex.{filled_more}
-use Rattle.hex.proofs.values_at.Statement.{statement}
-use Rattle.hex.proofs.values_at.Tie as tie
+use Rattle.hexadecimal.proofs.values_at.Statement.{statement}
+use Rattle.hexadecimal.proofs.values_at.Tie as tie
 
 abbrev invariant-loop : tie.invariant-loop
 invariant-loop s at n₀ i₀ n i = (i ≤ 32) × (length n ≡ 32) × ((k : ℕ) → k < i → get_or n k 0 ≡ nib (get_or s (at + k) 0))
