@@ -1,4 +1,5 @@
 // Reads events on standard input and prints an answer for each, then the formed sessions. The work on bytes is in `reading`, `table` and `noting`.
+#![tactic(auto)]
 ghost use Rattle.std.specs.Prelude.{◌≡◌, ◌≤◌, length};
 
 use asking::World;

@@ -1,4 +1,5 @@
 // Decide and form: their parts one after the other, stored under a pen.
+#![tactic(auto)]
 mod decide;
 mod form;
 

@@ -1,1 +1,2 @@
 // Theorems only: histories that are computed (specs/Examples.antt).
+#![tactic(auto)]

@@ -1,4 +1,5 @@
 // Reads lines on standard input and prints one for each. The work on bytes is in `stream`.
+#![tactic(auto)]
 ghost use Rattle.std.specs.Prelude.{◌≡◌, ◌*◌, ◌≤◌, ◌<◌, length};
 
 use libc::{STDIN_FILENO, STDOUT_FILENO};

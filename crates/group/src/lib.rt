@@ -1,4 +1,5 @@
 // The group: its limits, its sets of heads, its session words, the quorum test and the fresh record.
+#![tactic(auto)]
 pub mod answers;
 pub mod heads;
 pub mod quorum;

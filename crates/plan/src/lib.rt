@@ -1,1 +1,2 @@
 // Definitions and theorems only: decide's a to d and form, what each stores, and what is true of the record after (specs/Lib.antt).
+#![tactic(auto)]

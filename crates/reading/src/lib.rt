@@ -1,4 +1,5 @@
 // The program between two reads: what is held of a line that was begun, one read, and one write.
+#![tactic(auto)]
 ghost use Rattle.std.specs.Prelude.{◌≡◌, ◌+◌, ◌≤◌, ◌<◌, length, take};
 ghost use Rattle.reading.specs.Reading.{first_world, at_read, held_count, Between, lines_end, after_read, Filled, after_write, Later};
 
