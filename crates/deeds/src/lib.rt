@@ -3,7 +3,7 @@
 use group::Answer;
 
 // What a head is to do. The first three are for the bench alone, and leave the head as it is.
-#[derive(Drop)]
+#[derive(Clone, Copy)]
 pub enum What {
     Refuse { number: u8 },
     Announce { number: u32, heads: u16 },

@@ -9,7 +9,7 @@ use group::{Answer, Group};
 use hexadecimal::{byte_at, digits};
 use start::start;
 
-#[derive(Drop)]
+#[derive(Clone, Copy)]
 pub enum Event {
     // Not of the form, or it names a head over 15.
     NoEvent,

@@ -7,7 +7,7 @@ ghost use Rattle.keeping.specs.Keeping.{no_line, stores_for, chars, pushed, is_l
 use group::Answer;
 
 // A line that was sent, of at most 419 characters; of none where no line is kept.
-#[derive(Drop)]
+#[derive(Clone, Copy)]
 pub struct Kept {
     pub len: usize,
     pub bytes: [u8; 419],

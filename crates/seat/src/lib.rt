@@ -17,7 +17,7 @@ use record::layout::primary;
 use start::start;
 
 // "The sixteen heads stand in one lent table, each with its record, its session and its last four sent lines." A cut that waits is armed, with its stores.
-#[derive(Drop)]
+#[derive(Clone, Copy)]
 pub struct Seat {
     pub words: [u64; Group::WORDS],
     pub session: Session,
