@@ -1,5 +1,6 @@
 // Where the bench stands, and what the next event line asks of a head: the bench's own refusals come first.
 #![tactic(auto)]
+
 ghost use Rattle.std.specs.Prelude.{◌≡◌, ◌≤◌, ◌<◌, length, take};
 ghost use Rattle.lines.specs.Walk.{first_of};
 ghost use Rattle.views.specs.Views.{listed};

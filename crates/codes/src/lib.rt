@@ -1,5 +1,6 @@
 // The small number of each answer.
 #![tactic(auto)]
+
 ghost use Rattle.std.specs.Prelude.{◌≡◌};
 ghost use Rattle.group.specs.Answers.{refusal_number, verdict, said};
 ghost use Rattle.codes.specs.Codes.{code as code_of, verdict_code, length_of};

@@ -1,5 +1,6 @@
 // What a head of the bench is asked to do, and what it did.
 #![tactic(auto)]
+
 use group::Answer;
 
 // What a head is to do. The first three are for the bench alone, and leave the head as it is.

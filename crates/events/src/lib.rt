@@ -1,5 +1,6 @@
 // An event line of the bench, as an event.
 #![tactic(auto)]
+
 ghost use Rattle.std.specs.Prelude.{◌≡◌, ◌+◌, ◌*◌, ◌<◌, length, drop};
 ghost use Rattle.lines.specs.Hex.{unhex};
 ghost use Rattle.lines.specs.Frame.{two, four};

@@ -1,5 +1,6 @@
 // The group: its limits, its sets of heads, its session words, the quorum test and the fresh record.
 #![tactic(auto)]
+
 pub mod answers;
 pub mod heads;
 pub mod quorum;

@@ -1,5 +1,6 @@
 // What a head of the bench keeps for later events: the lines it sent last, and how many stores a waiting cut leaves its next call.
 #![tactic(auto)]
+
 ghost use Rattle.std.specs.Prelude.{◌≡◌};
 ghost use Rattle.group.specs.Answers.{said};
 ghost use Rattle.keeping.specs.Keeping.{no_line, stores_for, chars, pushed, is_line, kept_at};

@@ -1,5 +1,6 @@
 // A head of the bench: its record, its session, the lines it sent last and a cut that waits; and what it does on an event, by value.
 #![tactic(auto)]
+
 ghost use Rattle.std.specs.Prelude.{◌≡◌, ◌<◌, ◌≤◌, take};
 ghost use Rattle.group.specs.Answers.{said};
 ghost use Rattle.head.specs.Calls.{ended, hear_state_spec, hear_attempt_spec};

@@ -1,5 +1,6 @@
 // What a state line carries, and line rules 4 to 7 over it.
 #![tactic(auto)]
+
 mod rules;
 
 ghost use Rattle.std.specs.Prelude.{◌≡◌};

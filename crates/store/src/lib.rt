@@ -1,5 +1,6 @@
 // Stores under a budget. A pen may make so many stores more; asked for one too many, it is cut and stores nothing from then on.
 #![tactic(auto)]
+
 ghost use Rattle.std.specs.Prelude.{◌≡◌, ◌<◌, length};
 ghost use Rattle.store.specs.Desk.{desk, store, put_to, run, store_if, where_changed};
 

@@ -1,5 +1,6 @@
 // Text into a lent buffer: each function puts its text at a place and answers with the next one.
 #![tactic(auto)]
+
 ghost use Rattle.std.specs.Prelude.{◌≡◌, ◌++◌, ◌∷◌, [], ◌+◌, ◌/◌, ◌%◌, ◌≤◌, ◌<◌, length, take, set};
 ghost use Rattle.text.specs.Text.{decimal, last_digits};
 
