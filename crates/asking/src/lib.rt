@@ -1,5 +1,6 @@
 // Where the bench stands, and what the next event line asks of a head: the bench's own refusals come first.
 #![tactic(auto)]
+
 ghost use Rattle.std.specs.Prelude.{◌≡◌, ◌≤◌, ◌<◌, length, take};
 ghost use Rattle.lines.specs.Walk.{first_of};
 ghost use Rattle.views.specs.Views.{listed};
@@ -13,7 +14,7 @@ use views::{enter_what, list_view, view_what};
 
 // Where the bench stands. The lent lists have more room than is used: these are the counts. at is where the next line begins, stop the end of the last whole line
 // of the part that was read, put the end of what is printed of that part. starting is how many heads the group line has yet to start.
-#[derive(Drop)]
+#[derive(Clone, Copy)]
 pub struct World {
     pub at: usize,
     pub stop: usize,
@@ -30,7 +31,7 @@ pub struct World {
 }
 
 // What one turn has the table do: head `to` acts, hearing head `from`; the next line begins at next.
-#[derive(Drop)]
+#[derive(Clone, Copy)]
 pub struct Order {
     pub to: usize,
     pub from: usize,

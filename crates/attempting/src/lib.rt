@@ -1,5 +1,6 @@
 // d. The attempt: the highest number and primary among the members, the sessions weighed, and the decision.
 #![tactic(auto)]
+
 ghost use Rattle.std.specs.Prelude.{◌≡◌, ◌<◌, length};
 ghost use Rattle.loops.specs.Below.{all_below};
 ghost use Rattle.group.specs.Answers.{said};

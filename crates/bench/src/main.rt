@@ -1,11 +1,12 @@
 // Reads events on standard input and prints an answer for each, then the formed sessions. The work on bytes is in `reading`, `table` and `noting`.
 #![tactic(auto)]
+
 ghost use Rattle.std.specs.Prelude.{◌≡◌, ◌≤◌, length};
 
 use asking::World;
-use libc::STDOUT_FILENO;
 use noting::close;
 use reading::{filled, first_world, sent};
+use std::io::{Read, Write};
 use table::{feed, new_table};
 
 // Room for one read, and for what its lines print: at most 24 characters each.
@@ -35,17 +36,17 @@ fn session_room() -> [u64; 1001]
 }
 
 // Writes what is printed at the end of the input, and answers how many reads were left to make.
-fn finished(formed: &[u64], out: &mut [u8], w: World) -> u64
+fn finished<W: Write>(writer: &mut W, formed: &[u64], out: &mut [u8], w: World) -> u64
     requires { (length formed.now ≡ 1001) × (length out.old ≡ 196608) × (w.formed ≤ 1001) }
     ensures { result ≡ w.turns }
 {
     let put = close(formed, out, w);
-    io::write_all(STDOUT_FILENO, &out[..put]);
+    let _ = writer.write_all(&out[..put]);
     w.turns
 }
 
 // The sixteen heads, the views and the sessions stand in locals of this function, which lends them for each read. It ends when no read is left to make.
-fn run() -> u64
+fn run<R: Read, W: Write>(reader: &mut R, writer: &mut W) -> u64
     ensures { result ≡ 0 }
 {
     let mut table = new_table();
@@ -55,13 +56,13 @@ fn run() -> u64
     let mut out = output();
     let mut w = first_world();
     while 0 < w.turns {
-        w = filled(&mut buf, w);
+        w = filled(reader, &mut buf, w);
         w = feed(&mut table, &mut views, &mut formed, &buf, &mut out, w);
-        w = sent(&out, w);
+        w = sent(writer, &out, w);
     }
-    finished(&formed, &mut out, w)
+    finished(writer, &formed, &mut out, w)
 }
 
-fn main() {
-    run();
+fn main(rt: HostRuntime) {
+    run(&mut rt.stdin(), &mut rt.stdout());
 }

@@ -1,5 +1,6 @@
 // The stores of each kind of change under a pen.
 #![tactic(auto)]
+
 ghost use Rattle.std.specs.Prelude.{◌≡◌, false, cond, [], ◌∷◌, ◌++◌, ◌<◌, length, get_or};
 ghost use Rattle.loops.specs.Below.{collect};
 ghost use Rattle.group.specs.Words.{num};

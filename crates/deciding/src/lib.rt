@@ -1,5 +1,6 @@
 // Decide and form: their parts one after the other, stored under a pen.
 #![tactic(auto)]
+
 mod decide;
 mod form;
 

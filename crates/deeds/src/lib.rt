@@ -1,9 +1,10 @@
 // What a head of the bench is asked to do, and what it did.
 #![tactic(auto)]
+
 use group::Answer;
 
 // What a head is to do. The first three are for the bench alone, and leave the head as it is.
-#[derive(Drop)]
+#[derive(Clone, Copy)]
 pub enum What {
     Refuse { number: u8 },
     Announce { number: u32, heads: u16 },

@@ -1,5 +1,6 @@
 // An event line of the bench, as an event.
 #![tactic(auto)]
+
 ghost use Rattle.std.specs.Prelude.{◌≡◌, ◌+◌, ◌*◌, ◌<◌, length, drop};
 ghost use Rattle.lines.specs.Hex.{unhex};
 ghost use Rattle.lines.specs.Frame.{two, four};
@@ -9,7 +10,7 @@ use group::{Answer, Group};
 use hexadecimal::{byte_at, digits};
 use start::start;
 
-#[derive(Drop)]
+#[derive(Clone, Copy)]
 pub enum Event {
     // Not of the form, or it names a head over 15.
     NoEvent,

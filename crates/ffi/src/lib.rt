@@ -1,5 +1,6 @@
 // The calls for C and Rust to link: plain numbers, lent slices and structs by value. Each hands its arguments on and its answer back as a small number.
 #![tactic(auto)]
+
 pub mod calls;
 pub mod reading;
 

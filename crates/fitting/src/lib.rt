@@ -1,5 +1,6 @@
 // When a session fits a record: the tests of document 01 over the parts of a session, one sentence each.
 #![tactic(auto)]
+
 pub mod stage;
 
 ghost use Rattle.std.specs.Prelude.{◌≡◌, ◌<◌, eqb, length};

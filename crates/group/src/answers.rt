@@ -1,7 +1,7 @@
 // What the calls answer. specs/Answers gives document 01's number or words for each case.
 
 // Why a call is refused.
-#[derive(Drop)]
+#[derive(Clone, Copy)]
 pub enum Refusal {
     Group,
     Record,
@@ -19,7 +19,7 @@ pub enum Refusal {
 }
 
 // The quorum test's answer.
-#[derive(Drop)]
+#[derive(Clone, Copy)]
 pub enum Quorum {
     Yes,
     No,
@@ -27,7 +27,7 @@ pub enum Quorum {
 }
 
 // A call's answer. A written line's is its length in characters, newline included.
-#[derive(Drop)]
+#[derive(Clone, Copy)]
 pub enum Answer {
     Started,
     Recovered,

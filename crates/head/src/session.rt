@@ -10,7 +10,7 @@ use state::{Held, State, no_state, nothing_held};
 
 // Its stage is a number, so that any bytes from outside are some session.
 #[repr(C)]
-#[derive(Drop)]
+#[derive(Clone, Copy)]
 pub struct Session {
     pub stage: u8,
     pub view: u32,

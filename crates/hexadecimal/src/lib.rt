@@ -1,5 +1,6 @@
 // Lower-case hexadecimal, and the end of the first line.
 #![tactic(auto)]
+
 ghost use Rattle.std.specs.Prelude.{◌≡◌, ℕ, ◌+◌, ◌*◌, ◌/◌, ◌≤◌, ◌<◌, length, get_or, take, drop, eqb};
 ghost use Rattle.loops.specs.Below.{every, any_below};
 ghost use Rattle.lines.specs.Hex.{is_digit, digit, nib, unhex, line_end, rest_of};

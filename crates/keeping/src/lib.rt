@@ -1,5 +1,6 @@
 // What a head of the bench keeps for later events: the lines it sent last, and how many stores a waiting cut leaves its next call.
 #![tactic(auto)]
+
 ghost use Rattle.std.specs.Prelude.{◌≡◌};
 ghost use Rattle.group.specs.Answers.{said};
 ghost use Rattle.keeping.specs.Keeping.{no_line, stores_for, chars, pushed, is_line, kept_at};
@@ -7,7 +8,7 @@ ghost use Rattle.keeping.specs.Keeping.{no_line, stores_for, chars, pushed, is_l
 use group::Answer;
 
 // A line that was sent, of at most 419 characters; of none where no line is kept.
-#[derive(Drop)]
+#[derive(Clone, Copy)]
 pub struct Kept {
     pub len: usize,
     pub bytes: [u8; 419],

@@ -1,5 +1,6 @@
 // Lines between heads: their form, as definitions and theorems, and what a reader gives of one. The code is in the crates hex, reader and writer.
 #![tactic(auto)]
+
 use state::State;
 
 // What a line is, or the first rule that it breaks.

@@ -1,5 +1,6 @@
 // The members of the view: own head, and the others.
 #![tactic(auto)]
+
 ghost use Rattle.std.specs.Prelude.{◌≡◌, false, not, ◌&&◌, cond, ℕ, ◌≤◌, ◌<◌, eqb, ltb, get_or};
 ghost use Rattle.group.specs.Heads.{has};
 ghost use Rattle.group.specs.Words.{rank, highest_of};

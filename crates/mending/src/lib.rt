@@ -1,5 +1,6 @@
 // Recovery: the recovered record is made on a copy, and stored where it differs from the cut one.
 #![tactic(auto)]
+
 ghost use Rattle.std.specs.Prelude.{◌≡◌, length};
 ghost use Rattle.record.specs.Outcome.{outcome};
 ghost use Rattle.recovery.specs.Recover.{recover_spec};

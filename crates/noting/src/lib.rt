@@ -1,5 +1,6 @@
 // What the bench keeps and prints of a turn, and at the end of the input.
 #![tactic(auto)]
+
 ghost use Rattle.std.specs.Prelude.{◌≡◌, ◌++◌, ◌+◌, ◌*◌, ◌≤◌, ◌<◌, length, take};
 ghost use Rattle.printing.specs.Texts.{closing, last_text};
 ghost use Rattle.noting.specs.Noting.{kept_by, one_started, onward, Noted};

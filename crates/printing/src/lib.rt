@@ -1,5 +1,6 @@
 // What the bench prints: for each event its answer, and at the end the formed sessions.
 #![tactic(auto)]
+
 ghost use Rattle.std.specs.Prelude.{◌≡◌, ◌++◌, ◌+◌, ◌*◌, ◌≤◌, ◌<◌, length, take, drop};
 ghost use Rattle.group.specs.Answers.{said};
 ghost use Rattle.lines.specs.Hex.{line_end};

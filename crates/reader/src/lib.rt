@@ -1,5 +1,6 @@
 // The reader: rules 1 to 7 in order.
 #![tactic(auto)]
+
 mod field;
 
 ghost use Rattle.std.specs.Prelude.{◌≡◌, true, ◌+◌, ◌*◌, ◌≤◌, length};

@@ -1,7 +1,5 @@
 -- The program between two reads. What is held of a line that was begun are its first 15 bytes: a line that long is no event, whatever follows.
-use Rattle.std.specs.Prelude.{Bool, false, cond, ◌≡◌, List, [], ℕ, ◌+◌, ◌-◌, ◌≤◌, ltb, eqb, ℤ, length, take, drop}
-use Rattle.libc.specs.Io.{Moved}
-use Rattle.io.specs.Counts.{clamp_len}
+use Rattle.std.specs.Prelude.{Bool, false, cond, ◌≡◌, List, [], ℕ, ◌+◌, ◌-◌, ◌≤◌, ltb, eqb, min, length, take, drop, Option, Some, None, IfSome}
 use Rattle.lines.specs.Walk.{begun}
 use Rattle.asking.specs.declared.World.{World}
 
@@ -27,8 +25,9 @@ unfoldable pub held_in : List ℕ → World → List ℕ
 held_in old w = take 15 (take (w.end - w.stop) (drop w.stop old))
 
 -- how many bytes a read brought, by its answer: none at the end of the input, and none where it failed
-unfoldable pub brought : World → ℤ → ℕ
-brought w got = clamp_len got (8192 - held_count w)
+unfoldable pub brought : World → Option ℕ → ℕ
+brought w (Some n) = min n (8192 - held_count w)
+brought w None = 0
 
 -- where the last whole line of s ends
 unfoldable pub lines_end : List ℕ → ℕ
@@ -39,14 +38,14 @@ lines_end s = length s - length (begun [] s)
 unfoldable pub after_bytes : List ℕ → World → ℕ → World
 after_bytes buf w n = cond (eqb n 0) (at_read w 0 (held_count w) 0) (at_read w (lines_end (take (held_count w + n) buf)) (held_count w + n) (w.turns - 1))
 
-unfoldable pub after_read : List ℕ → World → ℤ → World
+unfoldable pub after_read : List ℕ → World → Option ℕ → World
 after_read buf w got = after_bytes buf w (brought w got)
 
 -- a read: what is held stands first, and the world is the one that belongs to the read's answer, which may be any that a read into this room can give
 pub record Filled (old buf : List ℕ) (w r : World) : Type 0 where
   pub kept : take (held_count w) buf ≡ held_in old w
-  pub answer : ℤ
-  pub can : Moved (8192 - held_count w) answer
+  pub answer : Option ℕ
+  pub can : IfSome answer (λ n. n ≤ 8192 - held_count w)
   pub is : r ≡ after_read buf w answer
 
 -- after a write: the same, or no read is left to make where not all was written

@@ -1,10 +1,11 @@
 // The program between two reads: what is held of a line that was begun, one read, and one write.
 #![tactic(auto)]
+
 ghost use Rattle.std.specs.Prelude.{◌≡◌, ◌+◌, ◌≤◌, ◌<◌, length, take};
 ghost use Rattle.reading.specs.Reading.{first_world, at_read, held_count, Between, lines_end, after_read, Filled, after_write, Later};
 
 use asking::World;
-use libc::{STDIN_FILENO, STDOUT_FILENO};
+use std::io::{Read, Write};
 use stream::keep;
 
 // Nothing is read yet. A proved loop has to end, and nothing says that the input does: the loop counts its reads down from a number that no run uses up.
@@ -66,13 +67,13 @@ fn at_read(w: World, stop: usize, end: usize, turns: u64) -> World
     r
 }
 
-// The world after a read that answered got. One that brings bytes takes one off the reads left to make; one that brings none ends the run.
-fn after_read(buf: &[u8], w: World, got: isize) -> World
+// The world after a read that answered got: how many bytes it brought, or `None` where it failed. One that brings bytes takes one off the reads left to make; one that brings none ends the run.
+fn after_read(buf: &[u8], w: World, got: Option<usize>) -> World
     requires { Between buf.now w × (0 < w.turns) }
     ensures { result ≡ after_read buf.now w got }
 {
     let held = held_of(w);
-    let n = io::count(got, &buf[held..]);
+    let n = got.unwrap_or(0).min(buf.len() - held);
     if n == 0 {
         return at_read(w, 0, held, 0);
     }
@@ -81,14 +82,14 @@ fn after_read(buf: &[u8], w: World, got: isize) -> World
     at_read(w, stop, end, w.turns - 1)
 }
 
-// One read, after what is held of a line that was begun.
-pub fn filled(buf: &mut [u8], w: World) -> World
+// One read, after what is held of a line that was begun. A read that fails ends the run, as one that brings nothing does.
+pub fn filled<R: Read>(reader: &mut R, buf: &mut [u8], w: World) -> World
     requires { Between buf.old w × (0 < w.turns) }
     ensures { Filled buf.old buf.new w result }
 {
     let held = held_of(w);
     keep(buf, w.stop, held);
-    let got = libc::read(STDIN_FILENO, &mut buf[held..]);
+    let got = reader.read(&mut buf[held..]).ok();
     after_read(buf, w, got)
 }
 
@@ -105,11 +106,11 @@ fn after_write(w: World, all: bool) -> World
 }
 
 // Writes what the lines of a read print.
-pub fn sent(out: &[u8], w: World) -> World
+pub fn sent<W: Write>(writer: &mut W, out: &[u8], w: World) -> World
     requires { w.put ≤ length out.now }
     ensures { Later w result }
 {
     let put = w.put;
-    let all = io::write_all(STDOUT_FILENO, &out[..put]);
+    let all = writer.write_all(&out[..put]).is_ok();
     after_write(w, all)
 }

@@ -1,5 +1,6 @@
 // The recovered record, on a copy: the four steps that bring a cut record to the one after the done changes.
 #![tactic(auto)]
+
 ghost use Rattle.std.specs.Prelude.{◌≡◌, ◌<◌, length};
 ghost use Rattle.store.specs.Desk.{apply};
 ghost use Rattle.store.specs.Program.{after, up_to};

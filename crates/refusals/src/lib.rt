@@ -1,5 +1,6 @@
 // The first refusal of each call, in document 01's order, over the numbers that it depends on. `fit` says that the record is whole and the session fits it.
 #![tactic(auto)]
+
 ghost use Rattle.std.specs.Prelude.{◌≡◌, true, length};
 ghost use Rattle.record.specs.Layout.{own as own_of, entered as entered_of};
 ghost use Rattle.refusals.specs.Refusals.{check_number, enter_refused, state_refused, attempt_refused, decide_refused, form_refused, write_state_refused, write_attempt_refused};

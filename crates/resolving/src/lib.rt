@@ -1,5 +1,6 @@
 // c. The places that are cleared because their session was not formed.
 #![tactic(auto)]
+
 ghost use Rattle.std.specs.Prelude.{◌≡◌, not, ◌&&◌, ◌<◌, eqb, length};
 ghost use Rattle.loops.specs.Below.{any_below};
 ghost use Rattle.group.specs.Heads.{has};

@@ -1,5 +1,6 @@
 // A head of the bench: its record, its session, the lines it sent last and a cut that waits; and what it does on an event, by value.
 #![tactic(auto)]
+
 ghost use Rattle.std.specs.Prelude.{◌≡◌, ◌<◌, ◌≤◌, take};
 ghost use Rattle.group.specs.Answers.{said};
 ghost use Rattle.head.specs.Calls.{ended, hear_state_spec, hear_attempt_spec};
@@ -17,7 +18,7 @@ use record::layout::primary;
 use start::start;
 
 // "The sixteen heads stand in one lent table, each with its record, its session and its last four sent lines." A cut that waits is armed, with its stores.
-#[derive(Drop)]
+#[derive(Clone, Copy)]
 pub struct Seat {
     pub words: [u64; Group::WORDS],
     pub session: Session,

@@ -1,5 +1,6 @@
 // What is printed for a line that was judged.
 #![tactic(auto)]
+
 ghost use Rattle.std.specs.Prelude.{◌≡◌, ◌++◌, ◌∷◌, [], ◌+◌, ◌≤◌, length, take};
 ghost use Rattle.lines.specs.Hex.{hex_of};
 ghost use Rattle.shown.specs.Shown.{field, heads_text, number_text, session_text, head_text, values_text, attempt_text, state_text, refused_text, shown, room};

@@ -1,5 +1,6 @@
 // Start: the call that makes the record of a head, whatever stood there.
 #![tactic(auto)]
+
 ghost use Rattle.std.specs.Prelude.{◌≡◌, length};
 ghost use Rattle.record.specs.Outcome.{outcome};
 ghost use Rattle.record.specs.Start.{taken_least, can_start, start_spec};

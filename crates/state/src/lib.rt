@@ -1,5 +1,6 @@
 // What a state line carries, and line rules 4 to 7 over it.
 #![tactic(auto)]
+
 mod rules;
 
 ghost use Rattle.std.specs.Prelude.{◌≡◌};
@@ -10,7 +11,7 @@ pub use rules::{broken, keeps_rules};
 
 // The values of a record that its head sends. A session is its word, 0 for none; only the first `count` places count, the others are 0 when read.
 #[repr(C)]
-#[derive(Drop)]
+#[derive(Clone, Copy)]
 pub struct State {
     pub number: u32,
     pub primary: u64,
@@ -21,7 +22,7 @@ pub struct State {
 
 // The states that a head holds of the others, by head.
 #[repr(C)]
-#[derive(Drop)]
+#[derive(Clone, Copy)]
 pub struct Held {
     pub of: [State; Group::HEADS],
 }

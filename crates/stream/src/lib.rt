@@ -1,5 +1,6 @@
 // What `frames` prints for lines that come in parts of any size.
 #![tactic(auto)]
+
 ghost use Rattle.std.specs.Prelude.{◌≡◌, ◌++◌, [], ◌+◌, ◌*◌, ◌-◌, ◌≤◌, length, take, drop};
 ghost use Rattle.lines.specs.Reading.{judged};
 ghost use Rattle.lines.specs.Walk.{whole_lines, begun, last_line};

@@ -1,6 +1,7 @@
 // The sixteen heads of the bench stand in one lent table. Each function over the table is thin, and proved by a walk of its MIR, by hand; what a head does is a
 // function by value, which is covered.
 #![tactic(auto)]
+
 ghost use Rattle.std.specs.Prelude.{◌≡◌, ◌<◌, length, replicate};
 ghost use Rattle.seat.specs.Seat.{empty_seat};
 ghost use Rattle.seat.specs.Played.{did, played_by};

@@ -1,5 +1,6 @@
 // The views announced: where one stands, what a view line and an entry ask, and the list.
 #![tactic(auto)]
+
 ghost use Rattle.std.specs.Prelude.{◌≡◌, ◌≤◌, length, take};
 ghost use Rattle.views.specs.Views.{view_index, view_what, enter_what, listed};
 

@@ -1,5 +1,6 @@
 // Whether a record is whole: the tests of document 01, sentence by sentence.
 #![tactic(auto)]
+
 ghost use Rattle.std.specs.Prelude.{◌≡◌, true, ◌&&◌, ◌<◌, ◌≤◌, length};
 ghost use Rattle.loops.specs.Below.{all_below};
 ghost use Rattle.group.specs.Words.{num, session_word, formed_ok};

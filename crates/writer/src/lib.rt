@@ -1,5 +1,6 @@
 // The writers, straight into the lent output. `at` is a byte place of the frame, two characters each. Bytes are laid out in a block of at most 48 first, so that its characters are made many at once.
 #![tactic(auto)]
+
 ghost use Rattle.std.specs.Prelude.{◌≡◌, ◌++◌, ◌∷◌, [], ◌+◌, ◌*◌, ◌≤◌, length, take, drop};
 ghost use Rattle.std.proofs.lemmas.List.Edits.{sets};
 ghost use Rattle.lines.specs.Writing.{bytes2, bytes4, bytes6, flat, head_bytes, place_bytes, attempt_line, state_line, spell, wrote, write_attempt, write_state};
