@@ -122,9 +122,9 @@ module _ (st : State) (sender : ℕ) where
   after-prior k zero h = k.place-some zero h
   after-prior k (suc i) h = k.place-rising i (suc i) (omega arith) h
 
-  place_ok : Kept st sender → (i : ℕ) → i < st.count → place_ok sender st.primary (prior st.places i) (place st i) ≡ true
+  place_ok-kept : Kept st sender → (i : ℕ) → i < st.count → place_ok sender st.primary (prior st.places i) (place st i) ≡ true
   unfolding place_ok
-  place_ok k i h = simp (lt-ltb _ _ (after-prior k i h), lt-ltb _ _ (k.place-above i h), k.place-sender i h)
+  place_ok-kept k i h = simp (lt-ltb _ _ (after-prior k i h), lt-ltb _ _ (k.place-above i h), k.place-sender i h)
 
   pub keeps : Kept st sender → keeps_rules st sender ≡ true
   unfolding keeps_rules broken rule4 rule5 rule6 rule7
@@ -136,7 +136,7 @@ module _ (st : State) (sender : ℕ) where
         all_of st.count _ k.place-sound,
         k.primary-ok,
         all_of 16 _ k.formed-ok,
-        all_of st.count _ (place_ok k),
+        all_of st.count _ (place_ok-kept k),
         le-leb _ _ k.primary-number,
         all_of 16 (λ q. leb (num (formed st q)) st.number) (λ q h. le-leb _ _ (k.formed-number q h)),
         all_of st.count (λ i. leb (num (place st i)) st.number) (λ i h. le-leb _ _ (k.place-number i h)),

@@ -1,6 +1,5 @@
 -- At each turn the record and the pen are those after the words passed, and the words in order are the fields.
 use native.Mathlib.Omega.{arith}
-use Prim.Native.Nat.{◌-◌}
 use mathlib.Core.Path.{sym, ap, ◌∙◌}
 use mathlib.Core.List.{List}
 use Rattle.store.specs.Desk.{desk}
@@ -20,7 +19,7 @@ change-p-requires c = omega (arith, c.loop-k.invariant.1)
 
 pub loop-k-preserved : goal.loop-k-preserved
 unfolding step_by word_to
-loop-k-preserved c = (omega arith, c.change-p.auto.0 ∙ c.loop-k.invariant.1, steps-again (word_to c.args.to.now) (desk c.args.rec.now c.args.pen) _ c.loop-k.invariant.2 c.change-p.ensures)
+loop-k-preserved c = (omega arith, c.change-p.auto.rec ∙ c.loop-k.invariant.1, steps-again (word_to c.args.to.now) (desk c.args.rec.now c.args.pen) _ c.loop-k.invariant.2 c.change-p.ensures)
 
 pub shape_of-rec : goal.shape_of-rec
 shape_of-rec c = c.loop-k.invariant.1 ∙ sym c.requires.0

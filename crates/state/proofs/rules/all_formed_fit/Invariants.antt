@@ -1,0 +1,14 @@
+-- Before turn q the words before q pass, and the first that fails decides.
+use mathlib.Core.Path.{◌≡◌}
+use mathlib.Core.Bool.{true}
+use Prim.Native.Nat.{◌≤◌, ◌-◌}
+use lib.ListN.{get_or}
+use Rattle.loops.specs.Below.{all_below}
+use Rattle.group.specs.Words.{formed_ok}
+use Rattle.state.proofs.rules.all_formed_fit.Given as goal
+
+abbrev pub invariant-loop-q : goal.invariant-loop-q
+invariant-loop-q l = (l.q ≤ 16) × (all_below l.q (λ k. formed_ok l.own l.p k (get_or l.words k 0)) ≡ true)
+
+abbrev pub decreases-loop-q : goal.decreases-loop-q
+decreases-loop-q l = 16 - l.q

@@ -1,0 +1,13 @@
+-- Before turn i the answer is the test of all indexes below i.
+use mathlib.Core.Path.{◌≡◌}
+use Prim.Native.Nat.{◌≤◌, ◌-◌}
+use lib.ListN.{get_or}
+use Rattle.loops.specs.Below.{all_below}
+use Rattle.group.specs.Words.{sound}
+use Rattle.state.proofs.rules.all_sound.Given as goal
+
+abbrev pub invariant-loop-i : goal.invariant-loop-i
+invariant-loop-i l = (l.i ≤ l.n) × (l.ok ≡ all_below l.i (λ k. sound (get_or l.words k 0)))
+
+abbrev pub decreases-loop-i : goal.decreases-loop-i
+decreases-loop-i l = l.n - l.i
