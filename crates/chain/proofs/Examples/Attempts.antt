@@ -7,7 +7,7 @@ use native.Mathlib.Omega.{arith}
 use lib.Dec.{lit<}
 use borrow.Author.Tests.{eqb-true}
 use Rattle.loops.specs.Below.{fold_below, count_below, last_below}
-use Rattle.group.specs.Heads.{has, size, empty, common, shared, highest, Only as one-head}
+use Rattle.group.specs.Heads.{has, size, empty, common, shared, highest, only as one-head}
 use Rattle.group.specs.Quorum.{enough, majority, tied, blocking, passes}
 use Rattle.group.proofs.Laws.Heads.{has-only}
 use Rattle.chain.specs.Model.{Sess, real, Local, enter, attempt}

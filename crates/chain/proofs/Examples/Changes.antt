@@ -9,7 +9,7 @@ use Rattle.chain.specs.Reach.{Hist, start, more, now, Sent, sent, sent-before, A
 use Rattle.chain.specs.Quorum.{group_of}
 use Rattle.chain.proofs.Laws.Attempts.{number_of}
 use Rattle.chain.proofs.Laws.Reach.{safe-history}
-use Rattle.chain.proofs.Examples.Pair.{pair, pair-lawful, zero_in, one_in, both, both-pass, sess-of, loc, nowhere, only, unmarked, last-new, fresh, fresh-init, unmoved, entering, attempting}
+use Rattle.chain.proofs.Examples.Pair.{pair, pair-lawful, zero_in, one_in, both, both-pass, sess-of, loc, Nowhere, Only, Unmarked, last-new, fresh, fresh-init, unmoved, entering, attempting}
 
 -- (0003, n)
 abbrev ses : ℕ → Sess
@@ -18,34 +18,34 @@ ses n = sess-of 3 n
 -- ---- the states, by view
 
 abbrev in-1 : Local
-in-1 = loc 1 0 0 (real (ses 0)) nowhere unmarked
+in-1 = loc 1 0 0 (real (ses 0)) Nowhere Unmarked
 
 abbrev tried-1 : Local
-tried-1 = loc 1 1 1 (real (ses 0)) (only (ses 1)) unmarked
+tried-1 = loc 1 1 1 (real (ses 0)) (Only (ses 1)) Unmarked
 
 abbrev formed-1 : Local
-formed-1 = loc 1 1 1 (real (ses 1)) nowhere unmarked
+formed-1 = loc 1 1 1 (real (ses 1)) Nowhere Unmarked
 
 abbrev in-2 : Local
-in-2 = loc 2 1 1 (real (ses 1)) nowhere unmarked
+in-2 = loc 2 1 1 (real (ses 1)) Nowhere Unmarked
 
 abbrev behind-2 : Local
-behind-2 = loc 2 1 1 (real (ses 0)) (only (ses 1)) unmarked
+behind-2 = loc 2 1 1 (real (ses 0)) (Only (ses 1)) Unmarked
 
 abbrev tried-2 : Local
-tried-2 = loc 2 2 2 (real (ses 1)) (only (ses 2)) unmarked
+tried-2 = loc 2 2 2 (real (ses 1)) (Only (ses 2)) Unmarked
 
 abbrev in-3 : Local
-in-3 = loc 3 1 1 (real (ses 1)) nowhere unmarked
+in-3 = loc 3 1 1 (real (ses 1)) Nowhere Unmarked
 
 abbrev late-3 : Local
-late-3 = loc 3 2 2 (real (ses 1)) (only (ses 2)) unmarked
+late-3 = loc 3 2 2 (real (ses 1)) (Only (ses 2)) Unmarked
 
 abbrev marked-3 : Local
-marked-3 = loc 3 2 2 (real (ses 1)) (only (ses 2)) (λ S x. (S ≡ ses 2) × (x ≡ 0))
+marked-3 = loc 3 2 2 (real (ses 1)) (Only (ses 2)) (λ S x. (S ≡ ses 2) × (x ≡ 0))
 
 abbrev clear-3 : Local
-clear-3 = loc 3 2 2 (real (ses 1)) nowhere unmarked
+clear-3 = loc 3 2 2 (real (ses 1)) Nowhere Unmarked
 
 -- ---- view 1: both attempt, 0 forms
 
@@ -55,8 +55,8 @@ h₁ = more (more (start fresh) 0 (enter 1) in-1) 1 (enter 1) in-1
 k₁ : Valid pair h₁
 unfolding now group_of
 k₁ =
-    step (step (begin fresh-init) (entering _ _ 0 0 1 0 0 (real (ses 0)) nowhere (omega arith) zero_in))
-    (entering _ _ 1 0 1 0 0 (real (ses 0)) nowhere (omega arith) one_in)
+    step (step (begin fresh-init) (entering _ _ 0 0 1 0 0 (real (ses 0)) Nowhere (omega arith) zero_in))
+    (entering _ _ 1 0 1 0 0 (real (ses 0)) Nowhere (omega arith) one_in)
 
 abbrev h₂ : Hist
 h₂ = more (more h₁ 0 (attempt (ses 1)) tried-1) 1 (attempt (ses 1)) tried-1
@@ -95,8 +95,8 @@ h₄ = more (more h₃ 0 (enter 2) in-2) 1 (enter 2) behind-2
 k₄ : Valid pair h₄
 unfolding now group_of
 k₄ =
-    step (step k₃ (entering _ _ 0 1 2 1 1 (real (ses 1)) nowhere (omega arith) zero_in))
-    (entering _ _ 1 1 2 1 1 (real (ses 0)) (only (ses 1)) (omega arith) one_in)
+    step (step k₃ (entering _ _ 0 1 2 1 1 (real (ses 1)) Nowhere (omega arith) zero_in))
+    (entering _ _ 1 1 2 1 1 (real (ses 0)) (Only (ses 1)) (omega arith) one_in)
 
 abbrev h₅ : Hist
 h₅ = more h₄ 1 (adopt (ses 1)) in-2
@@ -140,8 +140,8 @@ h₇ = more (more h₆ 0 (enter 3) in-3) 1 (enter 3) late-3
 k₇ : Valid pair h₇
 unfolding now group_of
 k₇ =
-    step (step k₆ (entering _ _ 0 2 3 1 1 (real (ses 1)) nowhere (omega arith) zero_in))
-    (entering _ _ 1 2 3 2 2 (real (ses 1)) (only (ses 2)) (omega arith) one_in)
+    step (step k₆ (entering _ _ 0 2 3 1 1 (real (ses 1)) Nowhere (omega arith) zero_in))
+    (entering _ _ 1 2 3 2 2 (real (ses 1)) (Only (ses 2)) (omega arith) one_in)
 
 abbrev h₈ : Hist
 h₈ = more h₇ 1 tidy marked-3

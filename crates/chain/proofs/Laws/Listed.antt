@@ -41,6 +41,7 @@ insert-rise n S [] h r = rise h stop
 insert-rise n S (T ∷ L) h (rise l r) = insert-cases (Rise n) S T L (λ d. rise h (rise d r)) (λ d. rise l r) (λ d. rise l (insert-rise (suc T.number) S L d r))
 
 insert-old : (F S : Sess) (L : List Sess) → Has F L → Has F (insert S L)
+insert-old F S [] x' = elim x' [ ]
 insert-old F S (T ∷ L) (here e) = insert-cases (Has F) S T L (λ d. there (here e)) (λ d. here e) (λ d. here e)
 insert-old F S (T ∷ L) (there w) = insert-cases (Has F) S T L (λ d. there (there w)) (λ d. there w) (λ d. there (insert-old F S L w))
 
@@ -74,6 +75,7 @@ order-has F (S ∷ L) w = ⊎_elim here (λ z. there (order-has F L z)) (insert-
 -- where the list's sessions have different numbers, none is lost
 has-order : (F : Sess) (L : List Sess) → ((S T : Sess) → Has S L → Has T L → S.number ≡ T.number → S ≡ T) → Has F L → Has F (in_order L)
 unfolding in_order
+has-order F [] u x'' = elim x'' [ ]
 has-order F (S ∷ L) u (here e) = subst (λ Z. Has Z (insert S (in_order L))) (sym e) (insert-new S (in_order L) (λ T w. u S T (here refl) (there (order-has T L w))))
 has-order F (S ∷ L) u (there w) = insert-old F S (in_order L) (has-order F L (λ A B a b. u A B (there a) (there b)) w)
 

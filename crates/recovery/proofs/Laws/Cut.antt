@@ -16,7 +16,7 @@ use Rattle.loops.proofs.Laws.Order.{lt-or-ge}
 use Rattle.group.specs.Heads.{has}
 use Rattle.group.specs.Words.{rank}
 use Rattle.store.specs.Desk.{Store, stored, apply, store_if, differs, where_changed, diff_if}
-use Rattle.store.specs.Program.{Step, script, after, up_to}
+use Rattle.store.specs.Program.{Step, script, up_to}
 use Rattle.store.specs.Changes.{non_empty, all_stores, begun}
 use Rattle.store.proofs.Laws.Put.{stored-length}
 use Rattle.store.proofs.Laws.Script.{apply-append, apply-length}
