@@ -14,7 +14,7 @@ use Rattle.group.specs.Quorum.{enough}
 use Rattle.group.proofs.Laws.Words.{num-session, heads-session, has-heads}
 use Rattle.store.specs.Desk.{Store, apply, where_changed}
 use Rattle.store.specs.Program.{Step, after, up_to}
-use Rattle.record.specs.Layout.{settings, own, entered, number, store_marks}
+use Rattle.record.specs.Layout.{settings, own, entered, store_marks}
 use Rattle.record.specs.Whole.{whole}
 use Rattle.record.proofs.Laws.Layout.{Reads, same-own, own-small}
 use Rattle.record.proofs.Laws.Whole.{whole_parts}
