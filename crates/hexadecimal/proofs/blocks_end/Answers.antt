@@ -5,7 +5,7 @@ use Rattle.loops.proofs.Laws.Tests.{any_of}
 use lib.ListN.{get_or}
 use lib.Dec.{eqb}
 use mathlib.Core.Path.{sym, ◌∙◌}
-use Prim.Native.Nat.{◌-◌, ◌+◌}
+use Prim.Native.Nat.{◌+◌}
 use native.Mathlib.Omega.{arith}
 use Rattle.hexadecimal.proofs.blocks_end.Goals as goal
 

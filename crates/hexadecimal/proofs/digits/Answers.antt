@@ -1,7 +1,6 @@
 -- Before turn i the answer is the test of the first i characters.
 use mathlib.Core.Path.{refl, ◌∙◌, ap}
 use lib.Seq.{take_all}
-use Prim.Native.Nat.{◌-◌}
 use Rattle.loops.specs.Below.{every}
 use Rattle.lines.specs.Hex.{is_digit}
 use Rattle.lines.proofs.Laws.Hex.{every_take}

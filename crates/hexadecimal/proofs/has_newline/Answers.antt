@@ -1,6 +1,5 @@
 -- Before turn k the answer is whether one of the first k characters of the block is a newline.
 use mathlib.Core.Path.{refl, sym, ◌∙◌}
-use Prim.Native.Nat.{◌-◌}
 use native.Mathlib.Omega.{arith}
 use Rattle.loops.proofs.Laws.Tests.{any_none, any-again, any-end}
 use Rattle.hexadecimal.proofs.has_newline.Goals as goal

@@ -1,7 +1,6 @@
 -- Before each turn there is no newline among the first i characters.
 use Rattle.lines.proofs.Laws.Hex.{line-end-none, line-end-step}
 use borrow.Author.Tests.{eq-eqb, ne_eqb}
-use Prim.Native.Nat.{◌-◌}
 use native.Mathlib.Omega.{arith}
 use Rattle.hexadecimal.proofs.line_end.Goals as goal
 

@@ -1,6 +1,6 @@
 -- Before turn k the first at + k bytes of the frame are there: a byte is made of the values of its two digits.
 use mathlib.Core.Path.{◌≡◌, refl, sym, ap, ◌∙◌}
-use Prim.Native.Nat.{ℕ, ◌+◌, ◌*◌, ◌<◌, ◌-◌}
+use Prim.Native.Nat.{ℕ, ◌+◌, ◌*◌, ◌<◌}
 use native.Mathlib.Nat.{add-zero}
 use lib.ListN.{length-set, get_or, take}
 use native.Mathlib.Omega.{arith}

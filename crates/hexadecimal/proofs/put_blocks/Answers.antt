@@ -1,6 +1,5 @@
 -- Before each turn the first i bytes of the frame are there.
 use mathlib.Core.Path.{refl, ◌∙◌}
-use Prim.Native.Nat.{◌-◌}
 use native.Mathlib.Omega.{arith}
 use Rattle.hexadecimal.proofs.put_blocks.Goals as goal
 
@@ -12,7 +11,7 @@ put_block-requires c = (omega arith, omega arith, c.loop-i.invariant.2)
 
 pub loop-i-preserved : goal.loop-i-preserved
 loop-i-preserved c =
-    (omega arith, c.put_block.auto.a.0 ∙ c.loop-i.invariant.1, c.put_block.ensures)
+    (omega arith, c.put_block.auto.a ∙ c.loop-i.invariant.1, c.put_block.ensures)
 
 pub shape_of-a : goal.shape_of-a
 shape_of-a c = c.loop-i.invariant.1

@@ -1,6 +1,5 @@
 -- Before each turn the first i bytes of the frame are there.
 use mathlib.Core.Path.{refl}
-use Prim.Native.Nat.{◌-◌}
 use lib.ListN.{length-set}
 use native.Mathlib.Omega.{arith}
 use Rattle.lines.proofs.Laws.Hex.{decoded-more, decoded-all}

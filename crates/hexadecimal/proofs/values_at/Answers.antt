@@ -1,6 +1,6 @@
 -- Before turn i the first i values are there.
 use mathlib.Core.Path.{refl}
-use Prim.Native.Nat.{ℕ, ◌+◌, ◌-◌}
+use Prim.Native.Nat.{ℕ, ◌+◌}
 use native.Mathlib.Nat.{not-suc-le-zero}
 use lib.ListN.{length-set, get_or}
 use native.Mathlib.Omega.{arith}
