@@ -1,7 +1,6 @@
 -- Before each turn the first i sessions are spelled.
 use Rattle.lines.proofs.Laws.Writing.{spell-then, spell-none, flat_block, length-flat-take}
 use Rattle.lines.specs.Writing.{flat, spell}
-use Prim.Native.Nat.{◌-◌}
 use mathlib.Core.Path.{refl, ◌∙◌, ap}
 use native.Mathlib.Omega.{arith}
 use Rattle.writer.proofs.put_blocks.Goals as goal

@@ -2,7 +2,6 @@
 use Rattle.lines.proofs.Laws.Writing.{spell-none, spell-more}
 use Rattle.lines.specs.Writing.{spell}
 use lib.Seq.{take_all}
-use Prim.Native.Nat.{◌-◌}
 use mathlib.Core.Path.{refl, ◌∙◌, ap}
 use borrow.Author.Rules.{rules}
 use native.Mathlib.Omega.{arith}

@@ -1,7 +1,6 @@
 -- Before each turn the first i sessions are spelled, if those of the whole blocks were.
 use Rattle.lines.proofs.Laws.Writing.{spell-then, flat-take, length-flat-take}
 use Rattle.lines.specs.Writing.{spell}
-use Prim.Native.Nat.{◌-◌}
 use mathlib.Core.Path.{◌≡◌, refl, ◌∙◌, ap}
 use native.Mathlib.Omega.{arith}
 use Rattle.writer.proofs.put_words.Goals as goal

@@ -1,0 +1,11 @@
+-- At each head what was printed, and what the rest prints, is what the slice prints; the rest gets shorter.
+use mathlib.Core.Path.{◌≡◌}
+use lib.ListN.{length}
+use Rattle.stream.proofs.Laws.Walk.{Walked}
+use Rattle.stream.proofs.print_lines.Given as goal
+
+abbrev pub invariant-loop-end : goal.invariant-loop-end
+invariant-loop-end l = Walked l.s l.out l.rest l.put l.end × (length l.out ≡ length l.initial.out)
+
+abbrev pub decreases-loop-end : goal.decreases-loop-end
+decreases-loop-end l = length l.rest
