@@ -1,4 +1,4 @@
-// Links the proved library that `rt staticlib ffi` writes at the top of the repository.
+// Links the proved library that `outside/gate/10-library` puts there.
 fn main() {
     let top = std::path::Path::new(env!("CARGO_MANIFEST_DIR")).join("../../target/staticlib");
     println!("cargo:rustc-link-search=native={}", top.display());

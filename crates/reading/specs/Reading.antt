@@ -25,7 +25,7 @@ unfoldable pub held_in : List ℕ → World → List ℕ
 held_in old w = take 15 (take (w.end - w.stop) (drop w.stop old))
 
 -- how many bytes a read brought, by its answer: none at the end of the input, and none where it failed
-unfoldable pub brought : World → Option ℕ → ℕ
+abbrev pub brought : World → Option ℕ → ℕ
 brought w (Some n) = min n (8192 - held_count w)
 brought w None = 0
 
