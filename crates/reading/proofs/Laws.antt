@@ -8,17 +8,15 @@ use native.Mathlib.Omega.{arith}
 use borrow.Author.Tests.{lt-ltb, le-ltb, ne_eqb}
 use lib.ListN.{length, get_or, take, drop, take-append-drop, length-append, length-drop}
 use lib.Seq.{take-suc, take_all, take-take, take_at, length-take-le, slice, slice_empty, slice-cons}
-use lib.IntN.{ℤ, pos, negsuc}
 use lib.Dec.{ltb, eqb}
+use Rattle.std.specs.Prelude.{Option, Some, None, min}
+use Rattle.std.specs.Option.{unwrap_or}
+use Rattle.std.proofs.Math.Nat.{min-le_right, zero-min}
 use Rattle.loops.proofs.Laws.Order.{lt-or-ge}
 use Rattle.lines.specs.Hex.{line_end}
 use Rattle.lines.specs.Walk.{begun}
 use Rattle.lines.proofs.Laws.Walk.{begun-append, none-whole}
 use Rattle.lines.proofs.Laws.Alike.{NoEnd, none-nil}
-use mir.Syntax.{w64}
-use mir.Val.{SFits}
-use Rattle.libc.specs.Io.{Moved}
-use Rattle.io.specs.Counts.{clamp_len}
 use Rattle.asking.specs.declared.World.{World}
 use Rattle.reading.specs.Reading.{at_read, held_count, held_in, brought, lines_end, after_bytes, after_read, Filled, after_write, Later}
 
@@ -126,24 +124,19 @@ held_stays old mid bs w h e f g =
 
 -- ---- a read, and a write
 
--- what a read can answer fits its type
-pub answer-fits : (w : World) (z : ℤ) → Moved (8192 - held_count w) z → SFits w64 z
-answer-fits w (pos k) m = record { sfits = omega arith }
-answer-fits w (negsuc k) m = record { sfits = omega arith }
-
 -- the room behind the bytes held
 pub room-behind : (l : List ℕ) (h : ℕ) → length (take (length l - h) (drop h l)) ≡ length l - h
 room-behind l h = length-take-le (length l - h) (drop h l) (omega (arith, length-drop h l))
 
-pub brought-is : (w : World) (got read : ℤ) (n room : ℕ) → read ≡ got → n ≡ clamp_len read room → room ≡ 8192 - held_count w → n ≡ brought w got
-unfolding brought
-brought-is w got read n room s e f = e ∙ ap₂ clamp_len s f
+pub brought-is : (w : World) (got : Option ℕ) (read n room : ℕ) → read ≡ unwrap_or got 0 → n ≡ min read room → room ≡ 8192 - held_count w → n ≡ brought w got
+brought-is w (Some k) read n room s e f = e ∙ ap₂ min s f
+brought-is w None read n room s e f = e ∙ ap₂ min s f ∙ zero-min (8192 - held_count w)
 
-pub none-brought : (buf : List ℕ) (w r : World) (got : ℤ) (held n : ℕ) → n ≡ 0 → held ≡ held_count w → n ≡ brought w got → r ≡ at_read w 0 held 0 → r ≡ after_read buf w got
+pub none-brought : (buf : List ℕ) (w r : World) (got : Option ℕ) (held n : ℕ) → n ≡ 0 → held ≡ held_count w → n ≡ brought w got → r ≡ at_read w 0 held 0 → r ≡ after_read buf w got
 unfolding after_read after_bytes
 none-brought buf w r got held n z h b e = rw (← b, z, ← h) e
 
-pub some-brought : (buf : List ℕ) (w r : World) (got : ℤ) (held n stop turns : ℕ) → (n ≡ 0 → ⊥) → held ≡ held_count w → n ≡ brought w got → stop ≡ lines_end (take (held + n) buf) → turns ≡ w.turns - 1 → r ≡ at_read w stop (held + n) turns
+pub some-brought : (buf : List ℕ) (w r : World) (got : Option ℕ) (held n stop turns : ℕ) → (n ≡ 0 → ⊥) → held ≡ held_count w → n ≡ brought w got → stop ≡ lines_end (take (held + n) buf) → turns ≡ w.turns - 1 → r ≡ at_read w stop (held + n) turns
     → r ≡ after_read buf w got
 unfolding after_read after_bytes
 some-brought buf w r got held n stop turns d h b s t e = rw (← b, ne_eqb n 0 d, ← h, ← s, ← t) e
@@ -163,10 +156,9 @@ held-most : (w : World) → held_count w ≤ 15
 unfolding held_count
 held-most w = ⊎_elim (λ less. rw (lt-ltb (w.end - w.stop) 15 less) (omega arith)) (λ more. rw (le-ltb (w.end - w.stop) 15 more) (omega arith)) (lt-or-ge (w.end - w.stop) 15)
 
-brought-most : (w : World) (got : ℤ) → held_count w + brought w got ≤ 8192
-unfolding brought
-brought-most w (pos k) = omega (arith, held-most w)
-brought-most w (negsuc k) = omega (arith, held-most w)
+brought-most : (w : World) (got : Option ℕ) → held_count w + brought w got ≤ 8192
+brought-most w (Some k) = omega (arith, held-most w, min-le_right k (8192 - held_count w))
+brought-most w None = omega (arith, held-most w)
 
 after-lines : (buf : List ℕ) (w : World) (n : ℕ) → held_count w + n ≤ 8192 → Lines buf w (after_bytes buf w n)
 unfolding after_bytes at_read
