@@ -180,10 +180,12 @@ order_same [] = refl
 order_same (w ∷ L) = ap (insert_sess (sess w)) (order_same L) ∙ insert-same w (in_order L)
 
 has-formed : (L : List ℕ) (F : Sess) → Has F (sessions L) → FormedIn L F
+has-formed [] F x' = elim x' [ ]
 has-formed (w ∷ L) F (here e) = (w, Memᴰ.head refl, e)
 has-formed (w ∷ L) F (there h) = let (v, d, e) = has-formed L F h in (v, Memᴰ.tail d, e)
 
 formed-has : (L : List ℕ) (F : Sess) (w : ℕ) → Memᴰ w L → F ≡ sess w → Has F (sessions L)
+formed-has [] F w x'' e = elim x'' [ ]
 formed-has (v ∷ L) F w (Memᴰ.head z) e = here (e ∙ ap sess z)
 formed-has (v ∷ L) F w (Memᴰ.tail d) e = there (formed-has L F w d e)
 

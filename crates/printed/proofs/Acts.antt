@@ -15,7 +15,7 @@ use Rattle.record.specs.Layout.{primary}
 use Rattle.head.specs.declared.session.Session.{Session}
 use Rattle.lines.specs.Reading.{read_whole}
 use Rattle.head.specs.Refusals.{hear_state_refusal, hear_attempt_refusal}
-use Rattle.head.specs.Calls.{Ended, Wrote, refuses, heard_state, heard_attempt, writes, write_state_spec, write_attempt_spec, enter_spec, hear_state_spec, hear_attempt_spec, decide_spec, form_spec}
+use Rattle.head.specs.Calls.{Ended, Wrote, refuses, heard_state, heard_attempt, write_state_spec, write_attempt_spec, enter_spec, hear_state_spec, hear_attempt_spec, decide_spec, form_spec}
 use Rattle.history.specs.Setting.{Setting}
 use Rattle.history.specs.Statement.{Sent, running, World, Call, enter, hear-state, hear-attempt, decide, form, recover, write-state, write-attempt, Event, call, back, leaves, forms, signed, lines_of, step, SentBefore, Given, History, in_order, insert as put}
 use Rattle.history.specs.Statement as history
