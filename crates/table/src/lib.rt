@@ -1,5 +1,4 @@
-// The sixteen heads of the bench stand in one lent table. Each function over the table is thin, and proved by a walk of its MIR, by hand; what a head does is a
-// function by value, which is covered.
+// The sixteen heads of the bench stand in one lent table. Each function over the table is thin; what a head does is a function by value.
 #![tactic(auto)]
 
 ghost use Rattle.std.specs.Prelude.{◌≡◌, ◌<◌, length, replicate};
@@ -21,7 +20,7 @@ pub fn new_table() -> [Seat; Group::HEADS]
     [empty_seat(); Group::HEADS]
 }
 
-// The head that an order is for, and the head that it hears: a walk does not look into an order.
+// The head that an order is for, and the head that it hears.
 fn to_head(o: Order) -> usize
     ensures { result ≡ o.to }
 {

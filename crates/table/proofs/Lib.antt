@@ -1,4 +1,0 @@
-pub mod Again
-pub mod Elem
-pub mod Local
-pub mod More
