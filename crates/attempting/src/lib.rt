@@ -27,7 +27,7 @@ fn state_number(st: State) -> u64
 }
 
 // The highest session number among the members, and the highest-numbered of their last primaries.
-#[derive(Drop)]
+#[derive(Clone, Copy)]
 struct Highest {
     number: u64,
     primary: u64,
@@ -159,7 +159,7 @@ fn lowest_free(rec: &[u64]) -> usize
 }
 
 // The pen after decide's stores, and the answer; it says nothing where the pen is cut.
-#[derive(Drop)]
+#[derive(Clone, Copy)]
 pub struct Decided {
     pub pen: Pen,
     pub answer: Answer,

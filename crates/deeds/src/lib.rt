@@ -20,7 +20,7 @@ pub enum What {
 }
 
 // What is printed for an event.
-#[derive(Drop)]
+#[derive(Clone, Copy)]
 pub enum Reply {
     Refused(u8),
     Announced,
@@ -29,7 +29,7 @@ pub enum Reply {
 }
 
 // What a head did: what is printed, and the session that it formed, 0 for none.
-#[derive(Drop)]
+#[derive(Clone, Copy)]
 pub struct Deed {
     pub reply: Reply,
     pub formed: u64,

@@ -8,14 +8,14 @@ use head::session::Session;
 
 // The session comes first: unused bytes before it would cost a copy of it.
 #[repr(C)]
-#[derive(Drop)]
+#[derive(Clone, Copy)]
 pub struct HeadEnd {
     pub session: Session,
     pub code: u8,
 }
 
 #[repr(C)]
-#[derive(Drop)]
+#[derive(Clone, Copy)]
 pub struct HeadLine {
     pub session: Session,
     pub length: usize,

@@ -7,7 +7,7 @@ use lines::Line;
 use state::State;
 
 #[repr(C)]
-#[derive(Drop)]
+#[derive(Clone, Copy)]
 pub struct LineRead {
     pub kind: u8,
     pub rule: u8,

@@ -7,7 +7,7 @@ use std::io::{Read, Write};
 use stream::{feed, finish};
 
 // What a turn came to: whether to go on, and how many bytes of a line begun are held.
-#[derive(Drop)]
+#[derive(Clone, Copy)]
 struct Came {
     go: bool,
     held: usize,

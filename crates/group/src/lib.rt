@@ -16,7 +16,7 @@ use crate::quorum::sub_quorum;
 pub use answers::{Answer, Quorum, Refusal};
 
 // The core group W0 and the minimum Q.
-#[derive(Drop)]
+#[derive(Clone, Copy)]
 pub struct Group {
     pub core: u16,
     pub least: u8,

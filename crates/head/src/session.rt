@@ -21,7 +21,7 @@ pub struct Session {
 }
 
 // What a call hands back.
-#[derive(Drop)]
+#[derive(Clone, Copy)]
 pub struct Next {
     pub answer: Answer,
     pub session: Session,

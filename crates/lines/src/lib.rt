@@ -4,7 +4,7 @@
 use state::State;
 
 // What a line is, or the first rule that it breaks.
-#[derive(Drop)]
+#[derive(Clone, Copy)]
 pub enum Line {
     StateLine { view: u32, sender: u8 },
     AttemptLine { view: u32, sender: u8 },
@@ -12,7 +12,7 @@ pub enum Line {
 }
 
 // A line and the state that it carries: none but for a state line.
-#[derive(Drop)]
+#[derive(Clone, Copy)]
 pub struct Read {
     pub line: Line,
     pub state: State,

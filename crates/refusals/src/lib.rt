@@ -12,7 +12,7 @@ use record::layout::{entered, own};
 use writer::{ATTEMPT_ROOM, STATE_ROOM};
 
 // Whether a call may go on.
-#[derive(Drop)]
+#[derive(Clone, Copy)]
 pub enum Check {
     Passed,
     Refused(Refusal),

@@ -27,7 +27,7 @@ pub struct Seat {
     pub stores: u64,
 }
 
-#[derive(Drop)]
+#[derive(Clone, Copy)]
 pub struct Next {
     pub seat: Seat,
     pub deed: Deed,

@@ -6,7 +6,7 @@ ghost use Rattle.store.specs.Desk.{desk, store, put_to, run, store_if, where_cha
 
 // A pen that stays as it is, is handed back field by field: copied whole, the bytes between its fields and its end would be copied too, and each such copy
 // waits for the one before.
-#[derive(Drop)]
+#[derive(Clone, Copy)]
 pub struct Pen {
     pub left: u64,
     pub cut: bool,

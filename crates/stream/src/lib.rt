@@ -12,7 +12,7 @@ use reader::judge;
 use shown::{print, print_refused};
 
 // What a part of the input came to: bytes printed, and bytes held of the line that it begins.
-#[derive(Drop)]
+#[derive(Clone, Copy)]
 pub struct Fed {
     pub put: usize,
     pub held: usize,
