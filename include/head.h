@@ -2,9 +2,10 @@
  * The calls of one capture head, for C and C++. The rules are document 01's,
  * "Specification of the build and its rules"; words in quotes are from there.
  *
- * Link with libffi.a (`rt lib` in crates/ffi writes it to crates/ffi/out), for
- * x86-64 Linux. It needs nothing but memcpy and memset, keeps nothing between
- * calls, allocates nothing.
+ * Link with libffi.a (`rt lib` in crates/ffi_c writes it as out/libffi_c.a, and
+ * outside/gate/10-library copies it to target/staticlib/libffi.a), for x86-64
+ * Linux. It needs nothing but memcpy and memset, keeps nothing between calls,
+ * allocates nothing.
  *
  * A head has two things. Its record, HEAD_WORDS words, stands in durable
  * storage. Its session is volatile: "each call takes the head's session and

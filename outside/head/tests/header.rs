@@ -107,7 +107,13 @@ fn exported() -> Declared {
     let source: String = source
         .map(|file| text(&format!("crates/ffi/src/{file}")))
         .concat();
-    let functions = rust_functions(&source, "pub extern \"C\" fn ");
+    let functions = exported_by(&source);
+    assert_eq!(functions, exported_by(&text("crates/ffi_c/src/lib.rt")));
+    functions
+}
+
+fn exported_by(source: &str) -> Declared {
+    let functions = rust_functions(source, "pub extern \"C\" fn ");
     assert_eq!(functions.len(), source.matches("#[unsafe(no_mangle)]").count());
     assert!(!functions.is_empty());
     functions
