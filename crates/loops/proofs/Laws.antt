@@ -9,3 +9,4 @@ pub mod First
 pub mod Lists
 pub mod Stores
 pub mod Copies
+pub mod Chains

@@ -1,0 +1,125 @@
+-- What a chain of iterators makes of a list is the recursion over its indexes. By induction on how many elements are taken: each takes one more.
+-- `q i` is what is asked or made of the element at index i, so that one law serves a list, a list of indexes and a list with its indexes.
+use mathlib.Core.Path.{◌≡◌, refl, sym, ap, ◌∙◌, subst}
+use mathlib.Core.Bool.{Bool}
+use mathlib.Core.List.{List, [], ◌∷◌, map}
+use mathlib.Core.Logic.{⊎_elim}
+use Prim.Native.Nat.{ℕ, zero, suc, ◌+◌, ◌≤◌, ◌<◌}
+use native.Mathlib.Nat.{le_refl, le_trans, le-suc}
+use native.Mathlib.Numerals.{add-one}
+use native.Mathlib.Omega.{arith}
+use lib.ListN.{length, get_or, take}
+use lib.Seq.{take-length}
+use Rattle.std.specs.List.{list_all, list_any, count_by, fold, range_with_len, enumerate_from}
+use Rattle.std.proofs.lemmas.List.{take_more}
+use Rattle.std.proofs.lemmas.List.Folds.{list_all_more, list_any_more}
+use Rattle.std.proofs.lemmas.List.Sums.{fold-append, count_by_more_yes, count_by_more_no}
+use Rattle.std.proofs.lemmas.List.FromFn.{length-range_with_len, get_or-range_with_len, length-enumerate_from, get_or-enumerate_from, length-map-range_with_len, get_or-map-range_with_len}
+use Rattle.loops.specs.Below.{fold_below, all_below, any_below, count_below, table, bit}
+use Rattle.loops.proofs.Laws.Truth.{passes-or-fails}
+use Rattle.loops.proofs.Laws.Fold.{fold-none, fold_next}
+use Rattle.loops.proofs.Laws.Tests.{all_none, all-next, any_none, any_next}
+use Rattle.loops.proofs.Laws.Lists.{table_is}
+
+-- ---- a fold
+
+fold-front : {A B : Type 0} (f : B → A → B) (step : ℕ → B → B) (b : B) (xs : List A) (d : A) (n : ℕ)
+    → n ≤ length xs → ((i : ℕ) (s : B) → i < n → f s (get_or xs i d) ≡ step i s) → fold f b (take n xs) ≡ fold_below n step b
+fold-front f step b xs d zero h e = sym (fold-none step b)
+fold-front f step b xs d (suc n) h e =
+    subst (λ m. fold f b (take m xs) ≡ fold_below m step b) (add-one n)
+    (ap (fold f b) (take_more xs n d h)
+    ∙ fold-append f b (take n xs) (get_or xs n d ∷ [])
+    ∙ ap (λ s. f s (get_or xs n d)) (fold-front f step b xs d n (le_trans (le-suc n) h) (λ i s k. e i s (le_trans k (le-suc n))))
+    ∙ e n (fold_below n step b) (le_refl (suc n))
+    ∙ sym (fold_next n step b))
+
+pub fold-chain : {A B : Type 0} (f : B → A → B) (step : ℕ → B → B) (b : B) (xs : List A) (d : A) (n : ℕ)
+    → length xs ≡ n → ((i : ℕ) (s : B) → i < n → f s (get_or xs i d) ≡ step i s) → fold f b xs ≡ fold_below n step b
+fold-chain f step b xs d n h e = ap (fold f b) (sym (take-length xs) ∙ ap (λ k. take k xs) h) ∙ fold-front f step b xs d n (omega arith) e
+
+-- ---- tests
+
+all-front : {A : Type 0} (p : A → Bool) (q : ℕ → Bool) (xs : List A) (d : A) (n : ℕ)
+    → n ≤ length xs → ((i : ℕ) → i < n → p (get_or xs i d) ≡ q i) → list_all p (take n xs) ≡ all_below n q
+all-front p q xs d zero h e = sym (all_none q)
+all-front p q xs d (suc n) h e =
+    subst (λ m. list_all p (take m xs) ≡ all_below m q) (add-one n)
+    (list_all_more p xs n d h
+    ∙ rw (all-front p q xs d n (le_trans (le-suc n) h) (λ i k. e i (le_trans k (le-suc n))), e n (le_refl (suc n))) (sym (all-next n q)))
+
+pub all-chain : {A : Type 0} (p : A → Bool) (q : ℕ → Bool) (xs : List A) (d : A) (n : ℕ)
+    → length xs ≡ n → ((i : ℕ) → i < n → p (get_or xs i d) ≡ q i) → list_all p xs ≡ all_below n q
+all-chain p q xs d n h e = ap (list_all p) (sym (take-length xs) ∙ ap (λ k. take k xs) h) ∙ all-front p q xs d n (omega arith) e
+
+any-front : {A : Type 0} (p : A → Bool) (q : ℕ → Bool) (xs : List A) (d : A) (n : ℕ)
+    → n ≤ length xs → ((i : ℕ) → i < n → p (get_or xs i d) ≡ q i) → list_any p (take n xs) ≡ any_below n q
+any-front p q xs d zero h e = sym (any_none q)
+any-front p q xs d (suc n) h e =
+    subst (λ m. list_any p (take m xs) ≡ any_below m q) (add-one n)
+    (list_any_more p xs n d h
+    ∙ rw (any-front p q xs d n (le_trans (le-suc n) h) (λ i k. e i (le_trans k (le-suc n))), e n (le_refl (suc n))) (sym (any_next n q)))
+
+pub any-chain : {A : Type 0} (p : A → Bool) (q : ℕ → Bool) (xs : List A) (d : A) (n : ℕ)
+    → length xs ≡ n → ((i : ℕ) → i < n → p (get_or xs i d) ≡ q i) → list_any p xs ≡ any_below n q
+any-chain p q xs d n h e = ap (list_any p) (sym (take-length xs) ∙ ap (λ k. take k xs) h) ∙ any-front p q xs d n (omega arith) e
+
+-- ---- a count
+
+count-front : {A : Type 0} (p : A → Bool) (q : ℕ → Bool) (xs : List A) (d : A) (n : ℕ)
+    → n ≤ length xs → ((i : ℕ) → i < n → p (get_or xs i d) ≡ q i) → count_by p (take n xs) ≡ count_below n q
+unfolding count_below
+count-front p q xs d zero h e = sym (fold-none (λ i c. c + bit (q i)) 0)
+count-front p q xs d (suc n) h e =
+    let before = count-front p q xs d n (le_trans (le-suc n) h) (λ i k. e i (le_trans k (le-suc n))) in
+    subst (λ m. count_by p (take m xs) ≡ fold_below m (λ i c. c + bit (q i)) 0) (add-one n)
+    (⊎_elim
+    (λ t. count_by_more_yes p xs n d h (e n (le_refl (suc n)) ∙ t) ∙ rw (before, fold_next n (λ i c. c + bit (q i)) 0, t) refl)
+    (λ f. count_by_more_no p xs n d h (e n (le_refl (suc n)) ∙ f) ∙ rw (before, fold_next n (λ i c. c + bit (q i)) 0, f) (omega arith))
+    (passes-or-fails (q n)))
+
+pub count-chain : {A : Type 0} (p : A → Bool) (q : ℕ → Bool) (xs : List A) (d : A) (n : ℕ)
+    → length xs ≡ n → ((i : ℕ) → i < n → p (get_or xs i d) ≡ q i) → count_by p xs ≡ count_below n q
+count-chain p q xs d n h e = ap (count_by p) (sym (take-length xs) ∙ ap (λ k. take k xs) h) ∙ count-front p q xs d n (omega arith) e
+
+-- ---- an index of a list of indexes, and an element with its index
+
+index-at : (n i : ℕ) → i < n → get_or (range_with_len 0 n) i 0 ≡ i
+index-at n i h = get_or-range_with_len 0 n i 0 h ∙ omega arith
+
+pair-at : {A : Type 0} (xs : List A) (i : ℕ) (d : A) → i < length xs → get_or (enumerate_from 0 xs) i (0, d) ≡ (i, get_or xs i d)
+pair-at xs i d h = get_or-enumerate_from 0 xs i (0, d) h ∙ ap (λ (k : ℕ). (k, get_or xs i d)) (omega arith)
+
+-- ---- the same where the chain goes over indexes, or over elements with their indexes
+
+pub all-range : (p q : ℕ → Bool) (n : ℕ) → ((i : ℕ) → i < n → p i ≡ q i) → list_all p (range_with_len 0 n) ≡ all_below n q
+all-range p q n e = all-chain p q (range_with_len 0 n) 0 n (length-range_with_len 0 n) (λ i h. ap p (index-at n i h) ∙ e i h)
+
+pub any-range : (p q : ℕ → Bool) (n : ℕ) → ((i : ℕ) → i < n → p i ≡ q i) → list_any p (range_with_len 0 n) ≡ any_below n q
+any-range p q n e = any-chain p q (range_with_len 0 n) 0 n (length-range_with_len 0 n) (λ i h. ap p (index-at n i h) ∙ e i h)
+
+pub fold-range : {B : Type 0} (f : B → ℕ → B) (step : ℕ → B → B) (b : B) (n : ℕ)
+    → ((i : ℕ) (s : B) → i < n → f s i ≡ step i s) → fold f b (range_with_len 0 n) ≡ fold_below n step b
+fold-range f step b n e =
+    fold-chain f step b (range_with_len 0 n) 0 n (length-range_with_len 0 n) (λ i s h. ap (f s) (index-at n i h) ∙ e i s h)
+
+pub all-enumerate : {A : Type 0} (p : ℕ × A → Bool) (q : ℕ → Bool) (xs : List A) (d : A) (n : ℕ)
+    → length xs ≡ n → ((i : ℕ) → i < n → p (i, get_or xs i d) ≡ q i) → list_all p (enumerate_from 0 xs) ≡ all_below n q
+all-enumerate p q xs d n h e =
+    all-chain p q (enumerate_from 0 xs) (0, d) n (length-enumerate_from 0 xs ∙ h) (λ i k. ap p (pair-at xs i d (omega arith)) ∙ e i k)
+
+pub any-enumerate : {A : Type 0} (p : ℕ × A → Bool) (q : ℕ → Bool) (xs : List A) (d : A) (n : ℕ)
+    → length xs ≡ n → ((i : ℕ) → i < n → p (i, get_or xs i d) ≡ q i) → list_any p (enumerate_from 0 xs) ≡ any_below n q
+any-enumerate p q xs d n h e =
+    any-chain p q (enumerate_from 0 xs) (0, d) n (length-enumerate_from 0 xs ∙ h) (λ i k. ap p (pair-at xs i d (omega arith)) ∙ e i k)
+
+pub fold-enumerate : {A B : Type 0} (f : B → ℕ × A → B) (step : ℕ → B → B) (b : B) (xs : List A) (d : A) (n : ℕ)
+    → length xs ≡ n → ((i : ℕ) (s : B) → i < n → f s (i, get_or xs i d) ≡ step i s) → fold f b (enumerate_from 0 xs) ≡ fold_below n step b
+fold-enumerate f step b xs d n h e =
+    fold-chain f step b (enumerate_from 0 xs) (0, d) n (length-enumerate_from 0 xs ∙ h)
+    (λ i s k. ap (f s) (pair-at xs i d (omega arith)) ∙ e i s k)
+
+-- ---- a list that a chain makes
+
+pub map-range-table : {A : Type 0} (f : ℕ → A) (d : A) (n : ℕ) → map f (range_with_len 0 n) ≡ table n f
+map-range-table f d n = table_is n f d _ (length-map-range_with_len f 0 n) (λ i h. get_or-map-range_with_len f 0 n i i d h (omega arith))
