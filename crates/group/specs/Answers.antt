@@ -1,9 +1,7 @@
 -- What each enum case stands for in document 01: "a definition gives this paper's number and values for each enum case".
-use Rattle.std.specs.Prelude.{ℕ}
+use Rattle.std.specs.Prelude.{ℕ, Bool, cond, Result, Ok, Err}
 use Rattle.group.specs.declared.answers.Refusal.{Refusal}
 use Rattle.group.specs.declared.answers.Refusal.TheVariants as refusal
-use Rattle.group.specs.declared.answers.Quorum.{Quorum}
-use Rattle.group.specs.declared.answers.Quorum.TheVariants as quorum
 use Rattle.group.specs.declared.answers.Answer.{Answer}
 use Rattle.group.specs.declared.answers.Answer.TheVariants as answer
 
@@ -28,10 +26,9 @@ pub data Verdict : Type 0 where
   holds fails : Verdict
   refuses : ℕ → Verdict
 
-abbrev pub verdict : Quorum → Verdict
-verdict quorum.Yes = holds
-verdict quorum.No = fails
-verdict (quorum.Refused r) = refuses (refusal_number r)
+abbrev pub verdict : Result Bool Refusal → Verdict
+verdict (Ok passed) = cond passed holds fails
+verdict (Err r) = refuses (refusal_number r)
 
 -- the other calls, in document 01's words
 pub data Said : Type 0 where
@@ -39,16 +36,16 @@ pub data Said : Type 0 where
   written : ℕ → Said
   refused : ℕ → Said
 
-abbrev pub said : Answer → Said
-said answer.Started = started
-said answer.Recovered = recovered
-said answer.Entered = entered
-said answer.Heard = heard
-said answer.Attempted = attempted
-said answer.NoQuorum = no-quorum
-said answer.NumbersRunOut = numbers-run-out
-said answer.NoPlace = no_place
-said answer.Formed = formed
-said (answer.Written n) = written n
-said answer.Cut = cut
-said (answer.Refused r) = refused (refusal_number r)
+abbrev pub said : Result Answer Refusal → Said
+said (Ok answer.Started) = started
+said (Ok answer.Recovered) = recovered
+said (Ok answer.Entered) = entered
+said (Ok answer.Heard) = heard
+said (Ok answer.Attempted) = attempted
+said (Ok answer.NoQuorum) = no-quorum
+said (Ok answer.NumbersRunOut) = numbers-run-out
+said (Ok answer.NoPlace) = no_place
+said (Ok answer.Formed) = formed
+said (Ok (answer.Written n)) = written n
+said (Ok answer.Cut) = cut
+said (Err r) = refused (refusal_number r)

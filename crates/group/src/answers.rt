@@ -1,9 +1,11 @@
 // What the calls answer. specs/Answers gives document 01's number or words for each case.
+ghost use Rattle.std.specs.Prelude.{◌≡◌};
+ghost use Rattle.group.specs.Answers.{refusal_number};
 
-// Why a call is refused.
-#[derive(Clone, Copy)]
+// Why a call is refused, numbered as the caller gets it.
+#[derive(Clone, Copy, Debug, PartialEq, Eq)]
 pub enum Refusal {
-    Group,
+    Group = 1,
     Record,
     Line,
     Stranger,
@@ -18,16 +20,16 @@ pub enum Refusal {
     Short,
 }
 
-// The quorum test's answer.
-#[derive(Clone, Copy)]
-pub enum Quorum {
-    Yes,
-    No,
-    Refused(Refusal),
+impl From<Refusal> for u8 {
+    ghost from_gives = { λ refusal n. n ≡ refusal_number refusal };
+
+    fn from(refusal: Refusal) -> u8 {
+        refusal as u8
+    }
 }
 
-// A call's answer. A written line's is its length in characters, newline included.
-#[derive(Clone, Copy)]
+// What a call that is not refused answers. A written line's is its length in characters, newline included.
+#[derive(Clone, Copy, Debug, PartialEq, Eq)]
 pub enum Answer {
     Started,
     Recovered,
@@ -40,5 +42,4 @@ pub enum Answer {
     Formed,
     Written(usize),
     Cut,
-    Refused(Refusal),
 }

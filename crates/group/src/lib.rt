@@ -13,7 +13,7 @@ ghost use Rattle.group.specs.Quorum.{quorum_test};
 
 use crate::heads::holds;
 use crate::quorum::sub_quorum;
-pub use answers::{Answer, Quorum, Refusal};
+pub use answers::{Answer, Refusal};
 
 // The core group W0 and the minimum Q.
 #[derive(Clone, Copy)]
@@ -36,25 +36,21 @@ impl Group {
     pub const TOP: u64 = 4294967295;
 
     // The quorum test of document 01, for any numbers.
-    pub fn quorum(self, s: u16, t: u16) -> Quorum
+    pub fn quorum(self, s: u16, t: u16) -> Result<bool, Refusal>
         ensures { verdict result ≡ quorum_test self.core self.least s t }
     {
         let core = self.core;
         let least = self.least;
         if core == 0 {
-            return Quorum::Refused(Refusal::Group);
+            return Err(Refusal::Group);
         }
         if least == 0 {
-            return Quorum::Refused(Refusal::Group);
+            return Err(Refusal::Group);
         }
         if u16::count_ones(core) < least as u32 {
-            return Quorum::Refused(Refusal::Group);
+            return Err(Refusal::Group);
         }
-        if sub_quorum(core, least, s, t) {
-            Quorum::Yes
-        } else {
-            Quorum::No
-        }
+        Ok(sub_quorum(core, least, s, t))
     }
 
     // The record that a start of head own leaves, for a group and a head that start takes.

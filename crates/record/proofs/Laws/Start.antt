@@ -8,7 +8,9 @@ use lib.ListN.{length}
 use native.Mathlib.Nat.{lt_irrefl}
 use native.Mathlib.Omega.{arith}
 use Rattle.loops.proofs.Laws.Truth.{and_left, and_right, and_both, cond-elim, not-true}
+use Rattle.std.specs.Prelude.{Result}
 use Rattle.group.specs.declared.answers.Answer.{Answer}
+use Rattle.group.specs.declared.answers.Refusal.{Refusal}
 use Rattle.group.specs.Quorum.{is_group}
 use Rattle.record.specs.Outcome.{outcome, Outcome}
 use Rattle.record.specs.Layout.{settings, core, least, own}
@@ -53,7 +55,7 @@ unfolding can_start
 can-group head core q e = and_right (leb head 15) (is_group core q) e
 
 -- two outcomes that the contract allows are equal
-pub start-determined : (r : List ℕ) (head core least : ℕ) (a b : List ℕ) (x y : Answer)
+pub start-determined : (r : List ℕ) (head core least : ℕ) (a b : List ℕ) (x y : Result Answer Refusal)
     → outcome a x ≡ start_spec r head core least → outcome b y ≡ start_spec r head core least → (a ≡ b) × (x ≡ y)
 start-determined r head core least = one-outcome (start_spec r head core least)
 

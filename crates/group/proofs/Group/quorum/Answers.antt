@@ -1,5 +1,5 @@
 -- `group::Group::quorum` meets its contract. `counted` says which numbers make a group in the code's own count.
-use mathlib.Core.Path.{◌≡◌, sym, ◌∙◌}
+use mathlib.Core.Path.{◌≡◌, refl}
 use mathlib.Core.Bool.{Bool, not, ◌&&◌}
 use Prim.Native.Nat.{ℕ, ◌^◌, ◌<◌}
 use native.Mathlib.Omega.{arith}
@@ -33,14 +33,8 @@ pub returns-then-core-least : goal.returns-then-core-least
 unfolding quorum_test
 returns-then-core-least c = simp (at c.before.before.before, ne_eqb _ _ c.if-core-eq0.false, ne_eqb _ _ c.if-least-eq0.false, lt-leb _ _ c.if-core-least.true)
 
-pub returns-then-sub_quorum : goal.returns-then-sub_quorum
+pub returns : goal.returns
 unfolding quorum_test
-returns-then-sub_quorum c =
-    let d = c.before.before in
-    simp (at d.before.before.before, ne_eqb _ _ d.if-core-eq0.false, ne_eqb _ _ d.if-least-eq0.false, le-leb _ _ d.if-core-least.false, sym c.sub_quorum.ensures ∙ c.if-sub_quorum.true)
-
-pub returns-else-sub_quorum : goal.returns-else-sub_quorum
-unfolding quorum_test
-returns-else-sub_quorum c =
-    let d = c.before.before in
-    simp (at d.before.before.before, ne_eqb _ _ d.if-core-eq0.false, ne_eqb _ _ d.if-least-eq0.false, le-leb _ _ d.if-core-least.false, sym c.sub_quorum.ensures ∙ c.if-sub_quorum.false)
+returns c =
+    let d = c.before in
+    simp (at d.before.before.before, ne_eqb _ _ d.if-core-eq0.false, ne_eqb _ _ d.if-least-eq0.false, le-leb _ _ d.if-core-least.false, c.sub_quorum.ensures) refl
