@@ -1,7 +1,7 @@
 -- Each call as a function of its inputs: answer, record words, session and output, refusals too ("Record, session and output buffer keep their contents").
 use Rattle.std.specs.Prelude.{cond, List, [], ◌∷◌, ◌++◌, ℕ, eqb, length, drop}
 use Rattle.group.specs.Answers.{Said, said, entered, heard, formed, written, cut, refused}
-use Rattle.store.specs.Desk.{Desk, desk, budget}
+use Rattle.store.specs.Desk.{Desk, desk, budget, is_cut}
 use Rattle.store.specs.Program.{Step, exec}
 use Rattle.store.specs.Changes.{Change}
 use Rattle.record.specs.Layout.{own}
@@ -36,7 +36,7 @@ refuses n r s = record { answer = refused n; words = r; session = s }
 -- "A call that needs more ends after that many with the answer "cut" and no session; any other ends as usual": as the stores left the desk
 unfoldable pub under : Desk → Said → Session → Ended
 under d answer s =
-    cond d.pen.cut (record { answer = cut; words = d.rec; session = no_session }) (record { answer = answer; words = d.rec; session = s })
+    cond (is_cut d.pen) (record { answer = cut; words = d.rec; session = no_session }) (record { answer = answer; words = d.rec; session = s })
 
 -- a call that stores, with k stores to make
 unfoldable pub stores : List Step → List ℕ → ℕ → Said → Session → Ended

@@ -1,6 +1,9 @@
 -- Which word holds what (document 01, "The record"): "52 words of 64 bits." Only this file and the code of `layout` know it.
-use Rattle.std.specs.Prelude.{List, ℕ, ◌+◌, ◌/◌, ◌%◌, get_or}
+use Rattle.std.specs.Prelude.{List, ℕ, ◌+◌, ◌/◌, ◌%◌, ◌<◌, get_or}
+use Rattle.loops.specs.Below.{table}
 use Rattle.store.specs.Desk.{Store, store}
+use Rattle.record.specs.declared.layout.Field.{Field}
+use Rattle.record.specs.declared.layout.Field.TheVariants.{Entered, Number, Primary, Formed, Place, Marks}
 
 abbrev pub word : List ℕ → ℕ → ℕ
 word r i = get_or r i 0
@@ -43,6 +46,17 @@ place_at r i = word r (20 + i)
 unfoldable pub marks_at : List ℕ → ℕ → ℕ
 marks_at r i = word r (36 + i)
 
+-- the sixteen of a kind, in order
+
+unfoldable pub formed : List ℕ → List ℕ
+formed r = table 16 (formed_for r)
+
+unfoldable pub places : List ℕ → List ℕ
+places r = table 16 (place_at r)
+
+unfoldable pub marks : List ℕ → List ℕ
+marks r = table 16 (marks_at r)
+
 -- the stores, by name: "Words are stored singly"
 
 unfoldable pub store_settings : ℕ → Store
@@ -65,3 +79,25 @@ store_place i w = store (20 + i) w
 
 unfoldable pub store_marks : ℕ → ℕ → Store
 store_marks i m = store (36 + i) m
+
+-- the store of a field that the code names
+abbrev pub field_store : Field → ℕ → Store
+field_store Entered v = store_entered v
+field_store Number n = store_number n
+field_store Primary w = store_primary w
+field_store (Formed q) w = store_formed q w
+field_store (Place i) w = store_place i w
+field_store (Marks i) m = store_marks i m
+
+-- the word that holds it
+abbrev pub field_at : Field → ℕ
+field_at f = (field_store f 0).at
+
+-- it is a field of the record: of the words that are kept sixteenfold there are sixteen
+abbrev pub InRecord : Field → Type 0
+InRecord Entered = Unit
+InRecord Number = Unit
+InRecord Primary = Unit
+InRecord (Formed q) = q < 16
+InRecord (Place i) = i < 16
+InRecord (Marks i) = i < 16

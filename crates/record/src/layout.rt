@@ -1,196 +1,176 @@
 // Which word of the record holds what: its fields, their stores under a pen, and their writes in a copy. No other file knows it.
-ghost use Rattle.std.specs.Prelude.{◌≡◌, ◌<◌, length};
+#![tactic(auto, using(crate::proofs::Laws::Words::slices, crate::proofs::Laws::Words::fields), unfolding(crate::specs::Layout::settings, crate::specs::Layout::core, crate::specs::Layout::least, crate::specs::Layout::own, crate::specs::Layout::entered, crate::specs::Layout::number, crate::specs::Layout::primary, crate::specs::Layout::formed_for, crate::specs::Layout::place_at, crate::specs::Layout::marks_at, crate::specs::Layout::formed, crate::specs::Layout::places, crate::specs::Layout::marks, store::specs::Desk::stored,))]
+
+ghost use Rattle.std.specs.Prelude.{◌≡◌, ◌<◌};
 ghost use Rattle.store.specs.Desk.{desk, stored, put_to, run, store_if, where_changed};
 ghost use Rattle.store.specs.Program.{exec};
-ghost use Rattle.record.specs.Layout.{settings, core, least, own, entered, number, primary, formed_for, place_at, marks_at};
-ghost use Rattle.record.specs.Layout.{store_entered, store_number, store_primary, store_formed, store_place, store_marks};
+ghost use Rattle.record.specs.Layout.{settings, core, least, own, entered, number, primary, formed_for, place_at, marks_at, formed, places, marks, field_store, field_at, InRecord};
 ghost use Rattle.record.specs.Replacing.{store_record};
 
 use group::Group;
-use store::{Pen, change, put, put_if};
+use store::Pen;
+
+pub type Record = [u64; Group::WORDS];
+
+// A word that is stored by name.
+#[derive(Clone, Copy)]
+pub enum Field {
+    Entered,
+    Number,
+    Primary,
+    Formed(usize),
+    Place(usize),
+    Marks(usize),
+}
+
+impl Field {
+    // The word that holds it.
+    #[tactic(auto, unfolding(crate::specs::Layout::store_entered, crate::specs::Layout::store_number, crate::specs::Layout::store_primary, crate::specs::Layout::store_formed, crate::specs::Layout::store_place, crate::specs::Layout::store_marks,))]
+    fn at(self) -> usize
+        requires { InRecord self }
+        ensures { result ≡ field_at self }
+    {
+        match self {
+            Field::Entered => 1,
+            Field::Number => 2,
+            Field::Primary => 3,
+            Field::Formed(q) => 4 + q,
+            Field::Place(i) => 20 + i,
+            Field::Marks(i) => 36 + i,
+        }
+    }
+}
 
 // W0, Q and own head, in one word.
-pub fn settings(rec: &[u64]) -> u64
-    requires { length rec.now ≡ 52 }
+pub fn settings(rec: &Record) -> u64
     ensures { result ≡ settings rec.now }
 {
     rec[0]
 }
 
 // W0.
-pub fn core(rec: &[u64]) -> u16
-    requires { length rec.now ≡ 52 }
+pub fn core(rec: &Record) -> u16
     ensures { result ≡ core rec.now }
 {
     (rec[0] % 65536) as u16
 }
 
 // Q.
-pub fn least(rec: &[u64]) -> u8
-    requires { length rec.now ≡ 52 }
+pub fn least(rec: &Record) -> u8
     ensures { result ≡ least rec.now }
 {
     (rec[0] / 65536 % 256) as u8
 }
 
 // Own head.
-pub fn own(rec: &[u64]) -> usize
-    requires { length rec.now ≡ 52 }
+pub fn own(rec: &Record) -> usize
     ensures { (result ≡ own rec.now) × (result < 16) }
 {
     (rec[0] / 16777216 % Group::HEADS as u64) as usize
 }
 
 // The highest view entered.
-pub fn entered(rec: &[u64]) -> u64
-    requires { length rec.now ≡ 52 }
+pub fn entered(rec: &Record) -> u64
     ensures { result ≡ entered rec.now }
 {
     rec[1]
 }
 
 // The session number.
-pub fn number(rec: &[u64]) -> u64
-    requires { length rec.now ≡ 52 }
+pub fn number(rec: &Record) -> u64
     ensures { result ≡ number rec.now }
 {
     rec[2]
 }
 
 // Last primary.
-pub fn primary(rec: &[u64]) -> u64
-    requires { length rec.now ≡ 52 }
+pub fn primary(rec: &Record) -> u64
     ensures { result ≡ primary rec.now }
 {
     rec[3]
 }
 
 // Last formed for head q.
-pub fn formed_for(rec: &[u64], q: usize) -> u64
-    requires { (length rec.now ≡ 52) × (q < 16) }
+pub fn formed_for(rec: &Record, q: usize) -> u64
+    requires { q < 16 }
     ensures { result ≡ formed_for rec.now q }
 {
     rec[4 + q]
 }
 
 // Place i.
-pub fn place_at(rec: &[u64], i: usize) -> u64
-    requires { (length rec.now ≡ 52) × (i < 16) }
+pub fn place_at(rec: &Record, i: usize) -> u64
+    requires { i < 16 }
     ensures { result ≡ place_at rec.now i }
 {
     rec[20 + i]
 }
 
 // The marks of place i.
-pub fn marks_at(rec: &[u64], i: usize) -> u64
-    requires { (length rec.now ≡ 52) × (i < 16) }
+pub fn marks_at(rec: &Record, i: usize) -> u64
+    requires { i < 16 }
     ensures { result ≡ marks_at rec.now i }
 {
     rec[36 + i]
 }
 
-pub fn put_entered(rec: &mut [u64], pen: Pen, v: u64) -> Pen
-    requires { length rec.old ≡ 52 }
-    ensures { desk rec.new result ≡ put_to (store_entered v) (desk rec.old pen) }
+// The sixteen of a kind, in order.
+pub fn formed(rec: &Record) -> &[u64]
+    ensures { result.now ≡ formed rec.now }
 {
-    put(rec, pen, 1, v)
+    &rec[4..20]
 }
 
-pub fn put_number(rec: &mut [u64], pen: Pen, n: u64) -> Pen
-    requires { length rec.old ≡ 52 }
-    ensures { desk rec.new result ≡ put_to (store_number n) (desk rec.old pen) }
+pub fn places(rec: &Record) -> &[u64]
+    ensures { result.now ≡ places rec.now }
 {
-    put(rec, pen, 2, n)
+    &rec[20..36]
 }
 
-pub fn put_primary(rec: &mut [u64], pen: Pen, w: u64) -> Pen
-    requires { length rec.old ≡ 52 }
-    ensures { desk rec.new result ≡ put_to (store_primary w) (desk rec.old pen) }
+pub fn marks(rec: &Record) -> &[u64]
+    ensures { result.now ≡ marks rec.now }
 {
-    put(rec, pen, 3, w)
+    &rec[36..52]
 }
 
-pub fn put_place(rec: &mut [u64], pen: Pen, i: usize, w: u64) -> Pen
-    requires { (length rec.old ≡ 52) × (i < 16) }
-    ensures { desk rec.new result ≡ put_to (store_place i w) (desk rec.old pen) }
+pub fn put(rec: &mut Record, pen: Pen, field: Field, w: u64) -> Pen
+    requires { InRecord field }
+    ensures { desk rec.new result ≡ put_to (field_store field w) (desk rec.old pen) }
 {
-    put(rec, pen, 20 + i, w)
+    store::put(rec, pen, field.at(), w)
 }
 
 // Stores where asked.
-pub fn put_number_if(rec: &mut [u64], pen: Pen, asked: bool, n: u64) -> Pen
-    requires { length rec.old ≡ 52 }
-    ensures { desk rec.new result ≡ run (store_if asked (store_number n)) (desk rec.old pen) }
+pub fn put_if(rec: &mut Record, pen: Pen, asked: bool, field: Field, w: u64) -> Pen
+    requires { InRecord field }
+    ensures { desk rec.new result ≡ run (store_if asked (field_store field w)) (desk rec.old pen) }
 {
-    put_if(rec, pen, asked, 2, n)
-}
-
-pub fn put_formed_if(rec: &mut [u64], pen: Pen, asked: bool, q: usize, w: u64) -> Pen
-    requires { (length rec.old ≡ 52) × (q < 16) }
-    ensures { desk rec.new result ≡ run (store_if asked (store_formed q w)) (desk rec.old pen) }
-{
-    put_if(rec, pen, asked, 4 + q, w)
-}
-
-pub fn put_place_if(rec: &mut [u64], pen: Pen, asked: bool, i: usize, w: u64) -> Pen
-    requires { (length rec.old ≡ 52) × (i < 16) }
-    ensures { desk rec.new result ≡ run (store_if asked (store_place i w)) (desk rec.old pen) }
-{
-    put_if(rec, pen, asked, 20 + i, w)
-}
-
-pub fn put_marks_if(rec: &mut [u64], pen: Pen, asked: bool, i: usize, m: u64) -> Pen
-    requires { (length rec.old ≡ 52) × (i < 16) }
-    ensures { desk rec.new result ≡ run (store_if asked (store_marks i m)) (desk rec.old pen) }
-{
-    put_if(rec, pen, asked, 36 + i, m)
+    store::put_if(rec, pen, asked, field.at(), w)
 }
 
 // Stores only a word that changes.
-pub fn change_marks(rec: &mut [u64], pen: Pen, i: usize, m: u64) -> Pen
-    requires { (length rec.old ≡ 52) × (i < 16) }
-    ensures { desk rec.new result ≡ run (where_changed (store_marks i m) rec.old) (desk rec.old pen) }
+pub fn change(rec: &mut Record, pen: Pen, field: Field, w: u64) -> Pen
+    requires { InRecord field }
+    ensures { desk rec.new result ≡ run (where_changed (field_store field w) rec.old) (desk rec.old pen) }
 {
-    change(rec, pen, 36 + i, m)
+    store::change(rec, pen, field.at(), w)
 }
 
 // Makes the record be `to`, with at most the pen's stores: those of the words that differ, in order, which is the order of the fields.
-pub fn change_record(rec: &mut [u64], pen: Pen, to: &[u64]) -> Pen
-    requires { (length rec.old ≡ 52) × (length to.now ≡ 52) }
+pub fn change_record(rec: &mut Record, pen: Pen, to: &Record) -> Pen
     ensures { desk rec.new result ≡ exec (store_record to.now) (desk rec.old pen) }
 {
-    let mut p = pen;
-    for k in 0..Group::WORDS {
-        p = change(rec, p, k, to[k]);
+    let mut pen = pen;
+    for (at, w) in to.iter().enumerate() {
+        pen = store::change(rec, pen, at, *w);
     }
-    p
+    pen
 }
 
 // Sets a word with no pen, in a copy.
-pub fn set_number(to: &mut [u64], n: u64)
-    requires { length to.old ≡ 52 }
-    ensures { to.new ≡ stored (store_number n) to.old }
+pub fn set(to: &mut Record, field: Field, w: u64)
+    requires { InRecord field }
+    ensures { to.new ≡ stored (field_store field w) to.old }
 {
-    to[2] = n;
-}
-
-pub fn set_formed(to: &mut [u64], q: usize, w: u64)
-    requires { (length to.old ≡ 52) × (q < 16) }
-    ensures { to.new ≡ stored (store_formed q w) to.old }
-{
-    to[4 + q] = w;
-}
-
-pub fn set_place(to: &mut [u64], i: usize, w: u64)
-    requires { (length to.old ≡ 52) × (i < 16) }
-    ensures { to.new ≡ stored (store_place i w) to.old }
-{
-    to[20 + i] = w;
-}
-
-pub fn set_marks(to: &mut [u64], i: usize, m: u64)
-    requires { (length to.old ≡ 52) × (i < 16) }
-    ensures { to.new ≡ stored (store_marks i m) to.old }
-{
-    to[36 + i] = m;
+    to[field.at()] = w;
 }

@@ -1,9 +1,10 @@
 -- What is proved of recovery and of the changes, beside document 01's sentences ("Stores and cuts"). Under proofs/Laws: Call proves EndsRecovered and
 -- Determined, Still proves StoresNothing, Cut proves EndsTheSame, NotBegun, RecoversDone and CutAndWhole, Small and Adopt prove that each kind of change is sound.
-use Rattle.std.specs.Prelude.{true, ◌≡◌, List, [], ◌∷◌, ℕ, suc, ◌≤◌, ◌<◌, take}
+use Rattle.std.specs.Prelude.{true, ◌≡◌, List, [], ◌∷◌, ℕ, suc, ◌≤◌, ◌<◌, take, Result}
 use Rattle.group.specs.Heads.{has}
 use Rattle.group.specs.Words.{heads, num, rank, session_word}
 use Rattle.group.specs.declared.answers.Answer.{Answer}
+use Rattle.group.specs.declared.answers.Refusal.{Refusal}
 use Rattle.group.specs.Answers.{recovered}
 use Rattle.group.specs.Quorum.{enough}
 use Rattle.store.specs.Desk.{apply}
@@ -32,7 +33,7 @@ EndsRecovered = (r : List ℕ) (k : ℕ) → (recover_spec r k).answer ≡ recov
 -- the contract leaves nothing open: two outcomes that it allows are equal
 abbrev pub Determined : Type 0
 Determined =
-    (r : List ℕ) (k : ℕ) (a b : List ℕ) (x y : Answer) → outcome a x ≡ recover_spec r k → outcome b y ≡ recover_spec r k → (a ≡ b) × (x ≡ y)
+    (r : List ℕ) (k : ℕ) (a b : List ℕ) (x y : Result Answer Refusal) → outcome a x ≡ recover_spec r k → outcome b y ≡ recover_spec r k → (a ≡ b) × (x ≡ y)
 
 -- ---- one change
 

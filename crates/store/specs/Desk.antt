@@ -2,6 +2,7 @@
 -- A call that needs more ends after that many with the answer "cut""; "Words are stored singly".
 use Rattle.std.specs.Prelude.{Bool, true, false, List, [], ◌∷◌, ℕ, zero, suc, eqb, get_or, set}
 use Rattle.store.specs.declared.Pen.{Pen}
+use Rattle.store.specs.declared.Pen.TheVariants.{Left, Cut}
 
 -- one word stored: where, and what
 pub record Store : Type 0 where
@@ -21,20 +22,25 @@ desk r p = record { rec = r; pen = p }
 
 -- the pen of a call that may make k stores
 abbrev pub budget : ℕ → Pen
-budget k = record { left = k; cut = false }
+budget k = Left k
+
+-- the pen was asked for a store more than it had
+abbrev pub is_cut : Pen → Bool
+is_cut (Left k) = false
+is_cut Cut = true
 
 -- the record with the word stored
 unfoldable pub stored : Store → List ℕ → List ℕ
 stored s r = set r s.at s.word
 
 -- one store under a pen: nothing once cut; cut where none is left; else the word is stored
-abbrev pub put_at : Bool → ℕ → Store → List ℕ → Desk
-put_at true n s r = desk r (record { left = n; cut = true })
-put_at false zero s r = desk r (record { left = zero; cut = true })
-put_at false (suc n) s r = desk (stored s r) (record { left = n; cut = false })
+abbrev pub put_at : Pen → Store → List ℕ → Desk
+put_at Cut s r = desk r Cut
+put_at (Left zero) s r = desk r Cut
+put_at (Left (suc n)) s r = desk (stored s r) (Left n)
 
 unfoldable pub put_to : Store → Desk → Desk
-put_to s d = put_at d.pen.cut d.pen.left s d.rec
+put_to s d = put_at d.pen s d.rec
 
 -- a script: its stores in order
 unfoldable pub run : List Store → Desk → Desk

@@ -4,60 +4,45 @@
 ghost use Rattle.std.specs.Prelude.{◌≡◌, ◌<◌, length};
 ghost use Rattle.store.specs.Desk.{desk, store, put_to, run, store_if, where_changed};
 
-// A pen that stays as it is, is handed back field by field: copied whole, the bytes between its fields and its end would be copied too, and each such copy
-// waits for the one before.
 #[derive(Clone, Copy)]
-pub struct Pen {
-    pub left: u64,
-    pub cut: bool,
+pub enum Pen {
+    Left(u64),
+    Cut,
 }
 
 // Stores one word.
+#[tactic(auto, unfolding(crate::specs::Desk::put_to, crate::specs::Desk::stored))]
 pub fn put(rec: &mut [u64], pen: Pen, at: usize, w: u64) -> Pen
     requires { at < length rec.old }
     ensures { desk rec.new result ≡ put_to (store at w) (desk rec.old pen) }
 {
-    if pen.cut {
-        return Pen {
-            left: pen.left,
-            cut: pen.cut,
-        };
-    }
-    let left = pen.left;
-    if left == 0 {
-        return Pen { left: 0, cut: true };
-    }
-    rec[at] = w;
-    Pen {
-        left: left - 1,
-        cut: false,
+    match pen {
+        Pen::Left(0) | Pen::Cut => Pen::Cut,
+        Pen::Left(left) => {
+            rec[at] = w;
+            Pen::Left(left - 1)
+        }
     }
 }
 
 // Stores one word where asked.
+#[tactic(auto, unfolding(crate::specs::Desk::run, crate::specs::Desk::store_if))]
 pub fn put_if(rec: &mut [u64], pen: Pen, asked: bool, at: usize, w: u64) -> Pen
     requires { at < length rec.old }
     ensures { desk rec.new result ≡ run (store_if asked (store at w)) (desk rec.old pen) }
 {
-    if !asked {
-        return Pen {
-            left: pen.left,
-            cut: pen.cut,
-        };
-    }
-    put(rec, pen, at, w)
+    if asked { put(rec, pen, at, w) } else { pen }
 }
 
 // Makes the word be w, with no store where it is w already.
+#[tactic(auto, unfolding(crate::specs::Desk::run, crate::specs::Desk::where_changed))]
 pub fn change(rec: &mut [u64], pen: Pen, at: usize, w: u64) -> Pen
     requires { at < length rec.old }
     ensures { desk rec.new result ≡ run (where_changed (store at w) rec.old) (desk rec.old pen) }
 {
     if rec[at] == w {
-        return Pen {
-            left: pen.left,
-            cut: pen.cut,
-        };
+        pen
+    } else {
+        put(rec, pen, at, w)
     }
-    put(rec, pen, at, w)
 }

@@ -16,6 +16,7 @@ use Rattle.group.specs.Heads.{has, either, only}
 use Rattle.group.specs.Words.{rank}
 use Rattle.group.proofs.Laws.Heads.{has-none}
 use Rattle.store.specs.declared.Pen.{Pen}
+use Rattle.store.specs.declared.Pen.TheVariants.{Left, Cut}
 use Rattle.store.specs.Desk.{Store, Desk, desk, put_at, put_to, run, stored, differs, where_changed, diff_if}
 use Rattle.store.specs.Program.{Step, step_by, exec, script, up_to}
 use Rattle.store.proofs.Laws.Script.{run_length}
@@ -60,15 +61,15 @@ one_bit q h = simp one-mul (mod-eq_of_lt (pow-lt {i = q} {j = 64} (omega arith))
 
 -- ---- no mark step touches word 0
 
-put_keeps : (b : Bool) (n : ℕ) (s : Store) (r : List ℕ) → settings (stored s r) ≡ settings r → settings (put_at b n s r).rec ≡ settings r
-put_keeps true n s r e = refl
-put_keeps false zero s r e = refl
-put_keeps false (suc n) s r e = e
+put_keeps : (p : Pen) (s : Store) (r : List ℕ) → settings (stored s r) ≡ settings r → settings (put_at p s r).rec ≡ settings r
+put_keeps Cut s r e = refl
+put_keeps (Left zero) s r e = refl
+put_keeps (Left (suc n)) s r e = e
 
 differs-keeps : (b : Bool) (s : Store) (d : Desk) → settings (stored s d.rec) ≡ settings d.rec → settings (run (differs b s) d).rec ≡ settings d.rec
 unfolding run put_to
 differs-keeps true s d e = refl
-differs-keeps false s d e = put_keeps d.pen.cut d.pen.left s d.rec e
+differs-keeps false s d e = put_keeps d.pen s d.rec e
 
 exec-long : (fs : List Step) (d : Desk) → length (exec fs d).rec ≡ length d.rec
 exec-long fs d = ap (λ (e : Desk). length e.rec) (exec-run fs d) ∙ run_length (script fs d.rec) d

@@ -1,13 +1,92 @@
--- The words of a record in order are its fields in order.
+-- The words of a record in order are its fields in order, and the sixteen of a kind are neighbours.
 use mathlib.Core.Path.{◌≡◌, refl, sym, ap, ◌∙◌}
 use mathlib.Core.List.{List, [], ◌∷◌, ◌++◌, append_assoc, append-nil}
-use Prim.Native.Nat.{ℕ, zero, suc, ◌+◌}
+use Prim.Native.Nat.{ℕ, zero, suc, ◌+◌, ◌≤◌, ◌<◌}
 use native.Mathlib.Omega.{arith}
+use lib.ListN.{length, get_or, take, drop, length-drop}
+use lib.Seq.{get_or-drop}
+use Rattle.std.proofs.lemmas.List.{get_or-take, length-take-le}
+use Rattle.loops.specs.Below.{table}
+use Rattle.loops.proofs.Laws.Lists.{table_is, length-table, get_d-table}
 use Rattle.store.specs.Desk.{store, where_changed}
 use Rattle.store.specs.Program.{Step, up_to}
 use Rattle.store.proofs.Laws.Program.{up_to-none, up_to-next}
-use Rattle.record.specs.Layout.{word, settings, entered, number, primary, formed_for, place_at, marks_at, store_settings, store_entered, store_number, store_primary, store_formed, store_place, store_marks}
+use Rattle.record.specs.Layout.{word, settings, entered, number, primary, formed_for, place_at, marks_at, formed, places, marks, field_store, field_at, InRecord, store_settings, store_entered, store_number, store_primary, store_formed, store_place, store_marks}
+use Rattle.record.specs.declared.layout.Field.{Field}
+use Rattle.record.specs.declared.layout.Field.TheVariants.{Entered, Number, Primary, Formed, Place, Marks}
 use Rattle.record.specs.Replacing.{store_record}
+
+-- ---- a slice of the record is a table of its words
+
+part_table : (base n : ℕ) (r : List ℕ) → base + n ≤ length r → take n (drop base r) ≡ table n (λ i. word r (base + i))
+part_table base n r h =
+    table_is n _ 0 (take n (drop base r)) (length-take-le n (drop base r) (rw length-drop (omega arith)))
+    (λ i l. get_or-take n (drop base r) i 0 l ∙ get_or-drop base r i 0)
+
+module _ (r : List ℕ) (long : length r ≡ 52) where
+  pub formed_slice : take 16 (drop 4 r) ≡ formed r
+  unfolding formed formed_for
+  formed_slice = part_table 4 16 r (omega arith)
+
+  pub places_slice : take 16 (drop 20 r) ≡ places r
+  unfolding places place_at
+  places_slice = part_table 20 16 r (omega arith)
+
+  pub marks_slice : take 16 (drop 36 r) ≡ marks r
+  unfolding marks marks_at
+  marks_slice = part_table 36 16 r (omega arith)
+
+pub ruleset slices = (formed_slice, places_slice, marks_slice)
+
+-- and reads so
+
+pub length-formed : (r : List ℕ) → length (formed r) ≡ 16
+unfolding formed
+length-formed r = length-table 16 (formed_for r)
+
+pub length-places : (r : List ℕ) → length (places r) ≡ 16
+unfolding places
+length-places r = length-table 16 (place_at r)
+
+pub length-marks : (r : List ℕ) → length (marks r) ≡ 16
+unfolding marks
+length-marks r = length-table 16 (marks_at r)
+
+pub formed-in : (r : List ℕ) (q : ℕ) → q < 16 → get_or (formed r) q 0 ≡ formed_for r q
+unfolding formed
+formed-in r q h = get_d-table 16 (formed_for r) q 0 h
+
+pub place-in : (r : List ℕ) (i : ℕ) → i < 16 → get_or (places r) i 0 ≡ place_at r i
+unfolding places
+place-in r i h = get_d-table 16 (place_at r) i 0 h
+
+pub marks-in : (r : List ℕ) (i : ℕ) → i < 16 → get_or (marks r) i 0 ≡ marks_at r i
+unfolding marks
+marks-in r i h = get_d-table 16 (marks_at r) i 0 h
+
+-- ---- a field is one word of the record
+
+pub field_word : (f : Field) (w : ℕ) → store (field_at f) w ≡ field_store f w
+unfolding store_entered store_number store_primary store_formed store_place store_marks
+field_word Entered w = refl
+field_word Number w = refl
+field_word Primary w = refl
+field_word (Formed q) w = refl
+field_word (Place i) w = refl
+field_word (Marks i) w = refl
+
+pub field-within : (f : Field) → InRecord f → field_at f < 52
+unfolding store_entered store_number store_primary store_formed store_place store_marks
+field-within Entered h = omega arith
+field-within Number h = omega arith
+field-within Primary h = omega arith
+field-within (Formed q) h = omega arith
+field-within (Place i) h = omega arith
+field-within (Marks i) h = omega arith
+
+pub ruleset fields = (field_word, field-within)
+
+-- ---- word by word
 
 -- word k made to be that of t
 unfoldable pub word_to : List ℕ → ℕ → Step

@@ -12,7 +12,7 @@ use Rattle.loops.proofs.Laws.Truth.{and_right, cond-elim}
 use Rattle.group.specs.Heads.{has}
 use Rattle.group.specs.Words.{rank}
 use Rattle.group.specs.Answers.{Said, cut, recovered, refused}
-use Rattle.store.specs.Desk.{Store, Desk, desk, budget, apply}
+use Rattle.store.specs.Desk.{Store, Desk, desk, budget, is_cut, apply}
 use Rattle.store.specs.Program.{exec, script, after, up_to}
 use Rattle.store.proofs.Laws.Put.{diff_if-short}
 use Rattle.store.proofs.Laws.Program.{exec-take, exec-cuts, script-one, append-short, up_to-short}
@@ -57,17 +57,17 @@ module _ (r : List ℕ) (k : ℕ) where
   recover-refused e = rw e
 
   module _ (d : Desk) (e : d ≡ exec mend_program (desk r (budget k))) (m : mendable r ≡ true) where
-    ends : (b : Bool) → d.pen.cut ≡ b → leaves (cond b cut recovered) d.rec ≡ recover_spec r k
+    ends : (b : Bool) → is_cut d.pen ≡ b → leaves (cond b cut recovered) d.rec ≡ recover_spec r k
     unfolding recover_spec
     ends b q =
-        let c : ltb k (length (script mend_program r)) ≡ b = sym (ap (λ (x : Desk). x.pen.cut) e ∙ exec-cuts mend_program k r) ∙ q in
+        let c : ltb k (length (script mend_program r)) ≡ b = sym (ap (λ (x : Desk). is_cut x.pen) e ∙ exec-cuts mend_program k r) ∙ q in
         let l : d.rec ≡ apply (take k (script mend_program r)) r = ap (λ (x : Desk). x.rec) e ∙ exec-take mend_program k r in
         rw (m, c) (ap (leaves (cond b cut recovered)) l)
 
-    pub recover-cut : d.pen.cut ≡ true → leaves cut d.rec ≡ recover_spec r k
+    pub recover-cut : is_cut d.pen ≡ true → leaves cut d.rec ≡ recover_spec r k
     recover-cut q = ends true q
 
-    pub recover-done : d.pen.cut ≡ false → leaves recovered d.rec ≡ recover_spec r k
+    pub recover-done : is_cut d.pen ≡ false → leaves recovered d.rec ≡ recover_spec r k
     recover-done q = ends false q
 
 -- ---- what holds of it

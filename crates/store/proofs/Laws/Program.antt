@@ -8,18 +8,18 @@ use lib.Dec.{ltb}
 use lib.ListN.{length, take, length-append}
 use Rattle.loops.specs.Below.{fold_below, collect}
 use Rattle.loops.proofs.Laws.Lists.{collect-none, collect-next}
-use Rattle.store.specs.Desk.{Store, Desk, desk, budget, run, apply}
+use Rattle.store.specs.Desk.{Store, Desk, desk, budget, is_cut, run, apply}
 use Rattle.store.specs.Program.{Step, step_by, exec, script, after, up_to}
 use Rattle.store.proofs.Laws.Script.{run-append, run-cut, run-uncut, run_take, run-cuts, apply-append, apply-length}
 
 -- ---- a program is its script
 
-exec-cut : (fs : List Step) (d : Desk) → d.pen.cut ≡ true → exec fs d ≡ d
+exec-cut : (fs : List Step) (d : Desk) → is_cut d.pen ≡ true → exec fs d ≡ d
 unfolding exec step_by
 exec-cut [] d e = refl
 exec-cut (f ∷ fs) d e = ap (exec fs) (run-cut (f d.rec) d e) ∙ exec-cut fs d e
 
-exec-run' : (fs : List Step) (a : List Store) (d : Desk) (b : Bool) → (run a d).pen.cut ≡ b
+exec-run' : (fs : List Step) (a : List Store) (d : Desk) (b : Bool) → is_cut (run a d).pen ≡ b
     → ((d' : Desk) → exec fs d' ≡ run (script fs d'.rec) d')
     → exec fs (run a d) ≡ run (script fs (apply a d.rec)) (run a d)
 exec-run' fs a d true e ih = exec-cut fs (run a d) e ∙ sym (run-cut (script fs (apply a d.rec)) (run a d) e)
@@ -29,7 +29,7 @@ pub exec-run : (fs : List Step) (d : Desk) → exec fs d ≡ run (script fs d.re
 unfolding exec script step_by run
 exec-run [] d = refl
 exec-run (f ∷ fs) d =
-    exec-run' fs (f d.rec) d (run (f d.rec) d).pen.cut refl (exec-run fs)
+    exec-run' fs (f d.rec) d (is_cut (run (f d.rec) d).pen) refl (exec-run fs)
     ∙ sym (run-append (f d.rec) (script fs (apply (f d.rec) d.rec)) d)
 
 -- WHAT A CALL WITH BUDGET k LEAVES: the first k of all its stores
@@ -37,8 +37,8 @@ pub exec-take : (fs : List Step) (k : ℕ) (r : List ℕ) → (exec fs (desk r (
 exec-take fs k r = ap (λ (d : Desk). d.rec) (exec-run fs (desk r (budget k))) ∙ run_take (script fs r) k r
 
 -- AND IT IS CUT EXACTLY WHERE IT NEEDS MORE
-pub exec-cuts : (fs : List Step) (k : ℕ) (r : List ℕ) → (exec fs (desk r (budget k))).pen.cut ≡ ltb k (length (script fs r))
-exec-cuts fs k r = ap (λ (d : Desk). d.pen.cut) (exec-run fs (desk r (budget k))) ∙ run-cuts (script fs r) k r
+pub exec-cuts : (fs : List Step) (k : ℕ) (r : List ℕ) → is_cut (exec fs (desk r (budget k))).pen ≡ ltb k (length (script fs r))
+exec-cuts fs k r = ap (λ (d : Desk). is_cut d.pen) (exec-run fs (desk r (budget k))) ∙ run-cuts (script fs r) k r
 
 -- ---- programs one after the other
 

@@ -2,13 +2,15 @@
 use mathlib.Core.Bool.{Bool, true, false, cond}
 use mathlib.Core.Path.{◌≡◌, refl, sym, ap, ◌∙◌}
 use mathlib.Core.List.{List, [], ◌∷◌}
-use Prim.Native.Nat.{ℕ, zero, suc, ◌-◌, ◌≤◌, ◌<◌}
+use Prim.Native.Nat.{ℕ, zero, suc, ◌≤◌, ◌<◌}
 use native.Mathlib.Omega.{arith}
 use lib.Dec.{eqb}
 use lib.ListN.{get_or, set, length, length-set}
 use lib.Seq.{get_or-set_same, get_or-set_other, set-get_or}
-use borrow.Author.Tests.{eq-eqb, ne_eqb, eqb-true}
-use Rattle.store.specs.Desk.{Store, Desk, desk, stored, put_at, put_to, run, apply, store_if, differs, where_changed, diff_if}
+use borrow.Author.Tests.{eq-eqb, eqb-true}
+use Rattle.store.specs.declared.Pen.{Pen}
+use Rattle.store.specs.declared.Pen.TheVariants.{Left, Cut}
+use Rattle.store.specs.Desk.{Store, Desk, desk, stored, is_cut, put_at, put_to, apply, store_if, differs, where_changed, diff_if}
 
 -- ---- the record with a word stored
 
@@ -31,59 +33,22 @@ stored_same s r e = sym (ap (set r s.at) e) ∙ set-get_or r s.at 0
 
 -- ---- under a pen
 
-put-cut' : (b : Bool) (n : ℕ) (s : Store) (r : List ℕ) → b ≡ true → put_at b n s r ≡ desk r (record { left = n; cut = b })
-put-cut' true n s r e = refl
-put-cut' false n s r e = cc
+put-cut' : (p : Pen) (s : Store) (r : List ℕ) → is_cut p ≡ true → put_at p s r ≡ desk r p
+put-cut' Cut s r e = refl
+put-cut' (Left n) s r e = cc
 
-pub put-cut : (s : Store) (d : Desk) → d.pen.cut ≡ true → put_to s d ≡ d
+pub put-cut : (s : Store) (d : Desk) → is_cut d.pen ≡ true → put_to s d ≡ d
 unfolding put_to
-put-cut s d e = put-cut' d.pen.cut d.pen.left s d.rec e
+put-cut s d e = put-cut' d.pen s d.rec e
 
-put-none' : (b : Bool) (n : ℕ) (s : Store) (r : List ℕ) → b ≡ false → n ≡ 0 → put_at b n s r ≡ desk r (record { left = 0; cut = true })
-put-none' true n s r e z = cc
-put-none' false zero s r e z = refl
-put-none' false (suc n) s r e z = absurd (omega arith)
-
-pub put-none : (s : Store) (d : Desk) → d.pen.cut ≡ false → d.pen.left ≡ 0 → put_to s d ≡ desk d.rec (record { left = 0; cut = true })
-unfolding put_to
-put-none s d e z = put-none' d.pen.cut d.pen.left s d.rec e z
-
-put-some' : (b : Bool) (n : ℕ) (s : Store) (r : List ℕ) → b ≡ false → 0 < n → put_at b n s r ≡ desk (stored s r) (record { left = n - 1; cut = false })
-put-some' true n s r e z = cc
-put-some' false zero s r e z = absurd (omega arith)
-put-some' false (suc n) s r e z = ap (λ (k : ℕ). desk (stored s r) (record { left = k; cut = false })) (omega arith)
-
-pub put_some : (s : Store) (d : Desk) → d.pen.cut ≡ false → 0 < d.pen.left
-    → put_to s d ≡ desk (stored s d.rec) (record { left = d.pen.left - 1; cut = false })
-unfolding put_to
-put_some s d e z = put-some' d.pen.cut d.pen.left s d.rec e z
-
-put-length' : (b : Bool) (n : ℕ) (s : Store) (r : List ℕ) → length (put_at b n s r).rec ≡ length r
-put-length' true n s r = refl
-put-length' false zero s r = refl
-put-length' false (suc n) s r = stored-length s r
+put-length' : (p : Pen) (s : Store) (r : List ℕ) → length (put_at p s r).rec ≡ length r
+put-length' Cut s r = refl
+put-length' (Left zero) s r = refl
+put-length' (Left (suc n)) s r = stored-length s r
 
 pub put-length : (s : Store) (d : Desk) → length (put_to s d).rec ≡ length d.rec
 unfolding put_to
-put-length s d = put-length' d.pen.cut d.pen.left s d.rec
-
--- ---- where asked, and where it changes the word
-
-pub if-not : (c : Bool) (s : Store) (d : Desk) → c ≡ false → run (store_if c s) d ≡ d
-unfolding store_if run
-if-not c s d q = rw q
-
-pub if-put : (c : Bool) (s : Store) (d : Desk) → c ≡ true → run (store_if c s) d ≡ put_to s d
-unfolding store_if run
-if-put c s d q = rw q
-
-pub change-same : (s : Store) (d : Desk) → get_or d.rec s.at 0 ≡ s.word → run (where_changed s d.rec) d ≡ d
-unfolding where_changed run
-change-same s d e = rw (eq-eqb (get_or d.rec s.at 0) s.word e)
-
-pub change-put : (s : Store) (d : Desk) → (get_or d.rec s.at 0 ≡ s.word → ⊥) → run (where_changed s d.rec) d ≡ put_to s d
-unfolding where_changed run
-change-put s d e = rw (ne_eqb (get_or d.rec s.at 0) s.word e)
+put-length s d = put-length' d.pen s d.rec
 
 -- ---- with no pen
 

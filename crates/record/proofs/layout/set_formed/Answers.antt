@@ -1,9 +1,0 @@
--- The write is the store by name.
-use mathlib.Core.Path.{refl}
-use Rattle.store.specs.Desk.{stored}
-use Rattle.record.specs.Layout.{store_formed}
-use Rattle.record.proofs.layout.set_formed.Goals as goal
-
-pub returns : goal.returns
-unfolding stored store_formed
-returns c = refl
