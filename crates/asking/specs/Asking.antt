@@ -1,5 +1,5 @@
 -- What the next event line asks of a head: the bench's own refusals come first. Document 02, Item 1.
-use Rattle.std.specs.Prelude.{Bool, cond, List, ℕ, ◌+◌, ◌-◌, ltb, length, take, drop}
+use Rattle.std.specs.Prelude.{Bool, cond, List, ℕ, ◌+◌, ◌-◌, ltb, length, take, drop, Option, Some, None}
 use Rattle.lines.specs.Hex.{line_end, line_of}
 use Rattle.lines.specs.Walk.{first_of}
 use Rattle.events.specs.declared.Event.{Event}
@@ -14,54 +14,54 @@ use Rattle.asking.specs.declared.World.{World}
 -- ---- events
 
 -- which head an event is for, and which head's line it delivers
-abbrev pub to_of : Event → ℕ
-to_of event.NoEvent = 0
-to_of (event.GroupIs core least) = 0
-to_of (event.ViewIs v m) = 0
-to_of (event.Enter h v) = h
-to_of (event.GiveState to from which) = to
-to_of (event.Decide h) = h
-to_of (event.GiveAttempt to from which) = to
-to_of (event.Form h) = h
-to_of (event.Cut h k) = h
-to_of (event.Recover h) = h
+abbrev pub to_of : Option Event → ℕ
+to_of None = 0
+to_of (Some (event.GroupIs core least)) = 0
+to_of (Some (event.ViewIs v m)) = 0
+to_of (Some (event.Enter h v)) = h
+to_of (Some (event.GiveState d)) = d.to
+to_of (Some (event.Decide h)) = h
+to_of (Some (event.GiveAttempt d)) = d.to
+to_of (Some (event.Form h)) = h
+to_of (Some (event.Cut h k)) = h
+to_of (Some (event.Recover h)) = h
 
-abbrev pub from_of : Event → ℕ
-from_of event.NoEvent = 0
-from_of (event.GroupIs core least) = 0
-from_of (event.ViewIs v m) = 0
-from_of (event.Enter h v) = h
-from_of (event.GiveState to from which) = from
-from_of (event.Decide h) = h
-from_of (event.GiveAttempt to from which) = from
-from_of (event.Form h) = h
-from_of (event.Cut h k) = h
-from_of (event.Recover h) = h
+abbrev pub from_of : Option Event → ℕ
+from_of None = 0
+from_of (Some (event.GroupIs core least)) = 0
+from_of (Some (event.ViewIs v m)) = 0
+from_of (Some (event.Enter h v)) = h
+from_of (Some (event.GiveState d)) = d.from
+from_of (Some (event.Decide h)) = h
+from_of (Some (event.GiveAttempt d)) = d.from
+from_of (Some (event.Form h)) = h
+from_of (Some (event.Cut h k)) = h
+from_of (Some (event.Recover h)) = h
 
 -- "14 for an event before its group line"
-unfoldable pub in_group : Bool → What → What
+abbrev pub in_group : Bool → What → What
 in_group grouped w = cond grouped w (what.Refuse 14)
 
 -- "for a second group line"
-unfoldable pub group_what : Bool → ℕ → ℕ → What
+abbrev pub group_what : Bool → ℕ → ℕ → What
 group_what grouped core least = cond grouped (what.Refuse 14) (what.Open core least)
 
 -- what an event has a head do: "Refusals: 3 for an event that isn't of this form ..; then 14 ..; both before the head's own refusals"
-abbrev pub what_of : Event → Bool → List ℕ → What
-what_of event.NoEvent grouped views = what.Refuse 3
-what_of (event.GroupIs core least) grouped views = group_what grouped core least
-what_of (event.ViewIs v m) grouped views = view_what grouped views v m
-what_of (event.Enter h v) grouped views = enter_what grouped views v
-what_of (event.GiveState to from which) grouped views = in_group grouped (what.HearState which)
-what_of (event.Decide h) grouped views = in_group grouped what.Decide
-what_of (event.GiveAttempt to from which) grouped views = in_group grouped (what.HearAttempt which)
-what_of (event.Form h) grouped views = in_group grouped what.Form
-what_of (event.Cut h k) grouped views = in_group grouped (what.Arm k)
-what_of (event.Recover h) grouped views = in_group grouped what.Recover
+abbrev pub what_of : Option Event → Bool → List ℕ → What
+what_of None grouped views = what.Refuse 3
+what_of (Some (event.GroupIs core least)) grouped views = group_what grouped core least
+what_of (Some (event.ViewIs v m)) grouped views = view_what grouped views v m
+what_of (Some (event.Enter h v)) grouped views = enter_what grouped views v
+what_of (Some (event.GiveState d)) grouped views = in_group grouped (what.HearState d.which)
+what_of (Some (event.Decide h)) grouped views = in_group grouped what.Decide
+what_of (Some (event.GiveAttempt d)) grouped views = in_group grouped (what.HearAttempt d.which)
+what_of (Some (event.Form h)) grouped views = in_group grouped what.Form
+what_of (Some (event.Cut h k)) grouped views = in_group grouped (what.Arm k)
+what_of (Some (event.Recover h)) grouped views = in_group grouped what.Recover
 
 -- the event of a line that stands with its newline; without one it is no event
-unfoldable pub event_in : List ℕ → Event
-event_in l = cond (ltb (line_end l) (length l)) (event_of (line_of l)) event.NoEvent
+unfoldable pub event_in : List ℕ → Option Event
+event_in l = cond (ltb (line_end l) (length l)) (event_of (line_of l)) None
 
 -- ---- what a turn asks
 
@@ -70,10 +70,10 @@ unfoldable pub left : List ℕ → World → List ℕ
 left s w = take (w.stop - w.at) (drop w.at s)
 
 -- a head that the group line has yet to start
-unfoldable pub start_order : World → Order
+abbrev pub start_order : World → Order
 start_order w = record { to = 16 - w.starting; from = 16 - w.starting; next = w.at; what = what.Start w.core w.least }
 
-unfoldable pub order_for : Event → Bool → List ℕ → ℕ → Order
+abbrev pub order_for : Option Event → Bool → List ℕ → ℕ → Order
 order_for e grouped views next = record { to = to_of e; from = from_of e; next = next; what = what_of e grouped views }
 
 -- the next line, with its newline, and where the one after it begins

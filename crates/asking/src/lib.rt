@@ -39,75 +39,59 @@ pub struct Order {
     pub what: What,
 }
 
+// Before its group line the bench does nothing.
 fn in_group(grouped: bool, what: What) -> What
     ensures { result ≡ in_group grouped what }
 {
     if grouped {
-        return what;
+        what
+    } else {
+        What::Refuse { number: 14 }
     }
-    What::Refuse { number: 14 }
 }
 
 fn group_what(grouped: bool, core: u16, least: u8) -> What
     ensures { result ≡ group_what grouped core least }
 {
     if grouped {
-        return What::Refuse { number: 14 };
+        What::Refuse { number: 14 }
+    } else {
+        What::Open { core, least }
     }
-    What::Open { core, least }
 }
 
-fn what_of(e: Event, grouped: bool, views: &[u64], n: usize) -> What
+fn what_of(e: Option<Event>, grouped: bool, views: &[u64], n: usize) -> What
     requires { n ≤ length views.now }
     ensures { result ≡ what_of e grouped (take n views.now) }
 {
     match e {
-        Event::NoEvent => What::Refuse { number: 3 },
-        Event::GroupIs { core, least } => group_what(grouped, core, least),
-        Event::ViewIs { number, heads } => view_what(grouped, views, n, number, heads),
-        Event::Enter { head, number } => enter_what(grouped, views, n, number),
-        Event::GiveState { to, from, which } => in_group(grouped, What::HearState { which }),
-        Event::Decide { head } => in_group(grouped, What::Decide),
-        Event::GiveAttempt { to, from, which } => in_group(grouped, What::HearAttempt { which }),
-        Event::Form { head } => in_group(grouped, What::Form),
-        Event::Cut { head, stores } => in_group(grouped, What::Arm { stores }),
-        Event::Recover { head } => in_group(grouped, What::Recover),
+        None => What::Refuse { number: 3 },
+        Some(Event::GroupIs { core, least }) => group_what(grouped, core, least),
+        Some(Event::ViewIs { number, heads }) => view_what(grouped, views, n, number, heads),
+        Some(Event::Enter { number, .. }) => enter_what(grouped, views, n, number),
+        Some(Event::GiveState(d)) => in_group(grouped, What::HearState { which: d.which }),
+        Some(Event::Decide { .. }) => in_group(grouped, What::Decide),
+        Some(Event::GiveAttempt(d)) => in_group(grouped, What::HearAttempt { which: d.which }),
+        Some(Event::Form { .. }) => in_group(grouped, What::Form),
+        Some(Event::Cut { stores, .. }) => in_group(grouped, What::Arm { stores }),
+        Some(Event::Recover { .. }) => in_group(grouped, What::Recover),
     }
 }
 
-// Which head an event is for.
-fn to_of(e: Event) -> usize
-    ensures { result ≡ to_of e }
+// Which head an event is for, and which head's line it delivers; of the others it is the head itself.
+fn heads_of(e: Option<Event>) -> (usize, usize)
+    ensures { result ≡ (to_of e, from_of e) }
 {
     match e {
-        Event::NoEvent => 0,
-        Event::GroupIs { core, least } => 0,
-        Event::ViewIs { number, heads } => 0,
-        Event::Enter { head, number } => head as usize,
-        Event::GiveState { to, from, which } => to as usize,
-        Event::Decide { head } => head as usize,
-        Event::GiveAttempt { to, from, which } => to as usize,
-        Event::Form { head } => head as usize,
-        Event::Cut { head, stores } => head as usize,
-        Event::Recover { head } => head as usize,
-    }
-}
-
-// Which head's line an event delivers; of the others it is the head itself.
-fn from_of(e: Event) -> usize
-    ensures { result ≡ from_of e }
-{
-    match e {
-        Event::NoEvent => 0,
-        Event::GroupIs { core, least } => 0,
-        Event::ViewIs { number, heads } => 0,
-        Event::Enter { head, number } => head as usize,
-        Event::GiveState { to, from, which } => from as usize,
-        Event::Decide { head } => head as usize,
-        Event::GiveAttempt { to, from, which } => from as usize,
-        Event::Form { head } => head as usize,
-        Event::Cut { head, stores } => head as usize,
-        Event::Recover { head } => head as usize,
+        Some(Event::GiveState(d) | Event::GiveAttempt(d)) => (d.to as usize, d.from as usize),
+        Some(
+            Event::Enter { head, .. }
+            | Event::Decide { head }
+            | Event::Form { head }
+            | Event::Cut { head, .. }
+            | Event::Recover { head },
+        ) => (head as usize, head as usize),
+        None | Some(Event::GroupIs { .. } | Event::ViewIs { .. }) => (0, 0),
     }
 }
 
@@ -129,26 +113,27 @@ fn start_order(w: World) -> Order
 }
 
 // The event of the first line, if the line ends.
-fn event_in(s: &[u8]) -> Event
+fn event_in(s: &[u8]) -> Option<Event>
     ensures { result ≡ event_in (first_of s.now) }
 {
     let e = line_end(s);
     if e < s.len() {
         read_event(&s[..e])
     } else {
-        Event::NoEvent
+        None
     }
 }
 
 // What an event has the table do.
-fn order_for(e: Event, grouped: bool, views: &[u64], n: usize, next: usize) -> Order
+fn order_for(e: Option<Event>, grouped: bool, views: &[u64], n: usize, next: usize) -> Order
     requires { n ≤ length views.now }
     ensures { result ≡ order_for e grouped (take n views.now) next }
 {
+    let (to, from) = heads_of(e);
     let what = what_of(e, grouped, views, n);
     Order {
-        to: to_of(e),
-        from: from_of(e),
+        to,
+        from,
         next,
         what,
     }
