@@ -4,13 +4,15 @@ use mathlib.Core.Path.{◌≡◌, refl, sym, ap, ◌∙◌, subst}
 use mathlib.Core.Bool.{Bool}
 use mathlib.Core.List.{List, [], ◌∷◌, map}
 use mathlib.Core.Logic.{⊎_elim}
-use Prim.Native.Nat.{ℕ, zero, suc, ◌+◌, ◌≤◌, ◌<◌}
-use native.Mathlib.Nat.{le_refl, le_trans, le-suc}
+use Prim.Native.Nat.{ℕ, zero, suc, ◌+◌, ◌≤◌, ◌<◌, zero-le}
+use native.Mathlib.Nat.{le_refl, le_trans, le-suc, lt_irrefl, eq-or-lt_of_le}
 use native.Mathlib.Numerals.{add-one}
 use native.Mathlib.Omega.{arith}
+use denote.Param.Members.{Mut, Called}
 use lib.ListN.{length, get_or, take}
 use lib.Seq.{take-length}
 use Rattle.std.specs.List.{list_all, list_any, count_by, fold, range_with_len, enumerate_from}
+use Rattle.std.specs.Array.{IsFromFnResult, IsFromFnResultFrom}
 use Rattle.std.proofs.lemmas.List.{take_more}
 use Rattle.std.proofs.lemmas.List.Folds.{list_all_more, list_any_more}
 use Rattle.std.proofs.lemmas.List.Sums.{fold-append, count_by_more_yes, count_by_more_no}
@@ -123,3 +125,20 @@ fold-enumerate f step b xs d n h e =
 
 pub map-range-table : {A : Type 0} (f : ℕ → A) (d : A) (n : ℕ) → map f (range_with_len 0 n) ≡ table n f
 map-range-table f d n = table_is n f d _ (length-map-range_with_len f 0 n) (λ i h. get_or-map-range_with_len f 0 n i i d h (omega arith))
+
+-- an array made by a call at each index, where every call leaves the closure as it was
+
+from_fn-at : {F B : Type 0} (g : Mut F (ℕ × Unit {0}) B) (f : ℕ → B) (s : F) (ys : List B) (d : B) (i n : ℕ)
+    → IsFromFnResultFrom g s ys i n → ((k : ℕ) (r : B) (q : F) → Called g s (k, tt) r q → (q ≡ s) × (r ≡ f k))
+    → (k : ℕ) → i ≤ k → k < i + n → get_or ys k d ≡ f k
+from_fn-at g f s ys d i zero made e k low high = absurd (lt_irrefl i (omega arith))
+from_fn-at {F = F} g f s ys d i (suc n) (q, y, at, called, rest) e k low high =
+    let told = e i y q called in
+    ⊎_elim
+    (λ (here : i ≡ k). ap (λ j. get_or ys j d) (sym here) ∙ at.1 d ∙ told.1 ∙ ap f here)
+    (λ (later : i < k). from_fn-at g f s ys d (i + 1) n (subst (λ (p : F). IsFromFnResultFrom g p ys (i + 1) n) told.0 rest) e k (omega arith) (omega arith))
+    (eq-or-lt_of_le low)
+
+pub from_fn-table : {F B : Type 0} (g : Mut F (ℕ × Unit {0}) B) (f : ℕ → B) (d : B) (n : ℕ) {s : F} {ys : List B}
+    → IsFromFnResult g s ys n → ((k : ℕ) (r : B) (q : F) → Called g s (k, tt) r q → (q ≡ s) × (r ≡ f k)) → ys ≡ table n f
+from_fn-table g f d n {s = s} {ys = ys} made e = table_is n f d ys made.long (λ i h. from_fn-at g f s ys d 0 n made.each e i zero-le (omega arith))
