@@ -7,12 +7,26 @@ ghost use Rattle.codes.specs.Codes.{code as code_of, verdict_code, length_of};
 
 use group::{Answer, Refusal};
 
+pub const CUT: u8 = 64;
+
+pub const ATTEMPTED: u8 = 65;
+
+pub const NO_QUORUM: u8 = 66;
+
+pub const NUMBERS_RUN_OUT: u8 = 67;
+
+pub const NO_PLACE: u8 = 68;
+
+pub const QUORUM_YES: u8 = 69;
+
+pub const QUORUM_NO: u8 = 70;
+
 pub fn verdict_code(passed: Result<bool, Refusal>) -> u8
     ensures { result ≡ verdict_code (verdict passed) }
 {
     match passed {
-        Ok(true) => 69,
-        Ok(false) => 70,
+        Ok(true) => QUORUM_YES,
+        Ok(false) => QUORUM_NO,
         Err(refusal) => u8::from(refusal),
     }
 }
@@ -21,11 +35,11 @@ pub fn code(answer: Result<Answer, Refusal>) -> u8
     ensures { result ≡ code_of (said answer) }
 {
     match answer {
-        Ok(Answer::Cut) => 64,
-        Ok(Answer::Attempted) => 65,
-        Ok(Answer::NoQuorum) => 66,
-        Ok(Answer::NumbersRunOut) => 67,
-        Ok(Answer::NoPlace) => 68,
+        Ok(Answer::Cut) => CUT,
+        Ok(Answer::Attempted) => ATTEMPTED,
+        Ok(Answer::NoQuorum) => NO_QUORUM,
+        Ok(Answer::NumbersRunOut) => NUMBERS_RUN_OUT,
+        Ok(Answer::NoPlace) => NO_PLACE,
         Ok(_) => 0,
         Err(refusal) => u8::from(refusal),
     }

@@ -4,5 +4,4 @@ pub mod Words
 pub mod Formed
 pub mod Answers
 pub mod Quorum
-pub mod Fresh
 pub mod Cases

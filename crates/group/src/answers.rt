@@ -6,18 +6,18 @@ ghost use Rattle.group.specs.Answers.{refusal_number};
 #[derive(Clone, Copy, Debug, PartialEq, Eq)]
 pub enum Refusal {
     Group = 1,
-    Record,
-    Line,
-    Stranger,
-    OldView,
-    NoSession,
-    OtherView,
-    Heard,
-    Missing,
-    Decided,
-    Undecided,
-    Closed,
-    Short,
+    Record = 2,
+    Line = 3,
+    Stranger = 4,
+    OldView = 5,
+    NoSession = 6,
+    OtherView = 7,
+    Heard = 8,
+    Missing = 9,
+    Decided = 10,
+    Undecided = 11,
+    Closed = 12,
+    Short = 13,
 }
 
 impl From<Refusal> for u8 {

@@ -187,15 +187,16 @@ fn upper(name: &str) -> String {
     upper
 }
 
-/// The arms of a Rattle text that give the cases of an enum their numbers, but
-/// for 0, which several have.
-fn arms(text: &str, case: &str, name: &str) -> Numbers {
-    let arms = text.split(case).skip(1).filter_map(|arm| {
-        let (variant, after) = arm.split_once(" => ")?;
-        let number = after.split_once(',')?.0.parse().ok()?;
-        (number != 0).then(|| (format!("HEAD_{name}{}", upper(variant)), number))
+/// The numbers of an enum's cases in a Rattle text.
+fn cases(text: &str, name: &str, prefix: &str) -> Numbers {
+    let (_, after) = text.split_once(&format!("pub enum {name} {{")).expect(name);
+    let (cases, _) = after.split_once('}').expect("its end");
+    let cases = cases.split(',').filter_map(|case| {
+        let (variant, number) = case.trim().split_once(" = ")?;
+        let number = number.parse().ok()?;
+        Some((format!("HEAD_{prefix}{}", upper(variant)), number))
     });
-    arms.collect()
+    cases.collect()
 }
 
 /// The constants of a Rattle text.
@@ -232,19 +233,18 @@ fn the_wrapper_names_the_refusals_of_the_proved_source() {
         )
     });
     let numbers = named.map(|(name, refusal)| (name, u64::from(refusal.number())));
-    let codes = text("crates/codes/src/lib.rt");
+    let answers = text("crates/group/src/answers.rt");
     assert_eq!(
         Numbers::from(numbers),
-        arms(&codes, "Refusal::", "REFUSED_")
+        cases(&answers, "Refusal", "REFUSED_")
     );
 }
 
 #[test]
 fn the_header_names_the_numbers_of_the_proved_source() {
-    let codes = text("crates/codes/src/lib.rt");
-    let mut source = arms(&codes, "Refusal::", "REFUSED_");
-    source.extend(arms(&codes, "Answer::", ""));
-    source.extend(arms(&codes, "Quorum::", "QUORUM_"));
+    let answers = text("crates/group/src/answers.rt");
+    let mut source = cases(&answers, "Refusal", "REFUSED_");
+    source.extend(constants(&text("crates/codes/src/lib.rt"), ""));
     source.extend(constants(&text("crates/fitting/src/stage.rt"), "STAGE_"));
     source.extend(constants(&text("crates/writer/src/lib.rt"), ""));
     source.extend(constants(&text("crates/group/src/lib.rt"), ""));

@@ -247,9 +247,6 @@ pub highest-member : (s : ℕ) → 0 < size s → (highest s < 16) × (has s (hi
 unfolding highest size
 highest-member s p = last-member 16 (has s) p
 
-pub leading-small : (s : ℕ) → s < 2 ^ 16 → 0 < s → count_leading_zeros 16 s ≤ 15
-leading-small s b p = let r = leading_top 16 s p b in omega (arith, r.1)
-
 -- for a mask, no head is the number 0
 pub empty-mask : (s : ℕ) → s < 2 ^ 16 → empty s ≡ eqb s 0
 unfolding empty
@@ -258,10 +255,6 @@ empty-mask s b =
 
 pub shared-le : (s t : ℕ) → size (common s t) ≤ size s
 shared-le s t = size_mono (common s t) s (λ h l m. and_left (has s h) (has t h) (sym (has-common s t h) ∙ m))
-
-pub shared-ones : (s t : ℕ) → s < 2 ^ 16 → ones (bit_and s t) ≤ ones s
-unfolding common
-shared-ones s t b = omega (arith, ones-size s b, ones-size (bit_and s t) (common-lt s t b), shared-le s t)
 
 -- ---- the machine's ways to say it
 

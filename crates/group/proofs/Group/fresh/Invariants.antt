@@ -1,16 +1,9 @@
--- `group::Group::fresh` meets its contract. The loop over the heads is `fold_below` of its step, and `Laws.Fresh` says what that gives.
+-- Each word so far is its word of the fresh record.
 use mathlib.Core.Path.{◌≡◌}
-use mathlib.Core.List.{List}
-use Prim.Native.Nat.{ℕ, ◌-◌, ◌≤◌}
-use Rattle.loops.specs.Below.{fold_below, store_when}
-use Rattle.group.specs.Heads.{has}
+use Prim.Native.Nat.{ℕ, ◌<◌}
+use lib.ListN.{get_or}
+use Rattle.group.specs.Fresh.{fresh_word}
 use Rattle.group.proofs.Group.fresh.Given as goal
 
-abbrev pub step : ℕ → ℕ → List ℕ → List ℕ
-step core = store_when 4 (has core) (λ q. core)
-
-abbrev pub invariant-loop-q : goal.invariant-loop-q
-invariant-loop-q l = (l.q ≤ 16) × (l.words ≡ fold_below l.q (step l.core) l.initial.words)
-
-abbrev pub decreases-loop-q : goal.decreases-loop-q
-decreases-loop-q l = 16 - l.q
+abbrev pub invariant-loop-k : goal.invariant-loop-k
+invariant-loop-k l = (i : ℕ) → i < l.k → get_or l.word-items i 0 ≡ fresh_word l.self.core l.self.least l.own i

@@ -1,13 +1,9 @@
--- `group::heads::holds` meets its contract: no head above 15 is in a mask of 16 bits, and below the shift is the definition.
-use mathlib.Core.Path.{sym}
-use borrow.Author.Rules.{rules}
-use Rattle.group.specs.Heads.{has}
+-- No head above 15 is in a mask of 16 bits.
+use mathlib.Core.Path.{sym, ◌∙◌}
+use native.Mathlib.Omega.{arith}
+use borrow.Author.Tests.{lt-leb}
 use Rattle.group.proofs.Laws.Heads.{has-high}
 use Rattle.group.proofs.heads.holds.Goals as goal
 
-pub returns-then-h-gt-LAST : goal.returns-then-h-gt-LAST
-returns-then-h-gt-LAST c = sym (has-high 16 c.args.set c.args.h c.ranges.set.fits c.if-h-gt-LAST.true)
-
-pub returns : goal.returns
-unfolding has
-returns c = search rules
+pub returns-else-h-le-LAST : goal.returns-else-h-le-LAST
+returns-else-h-le-LAST c = lt-leb _ _ c.if-h-le-LAST.false ∙ sym (has-high 16 c.args.set c.args.h c.ranges.set.fits (omega arith))

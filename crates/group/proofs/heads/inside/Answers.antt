@@ -1,8 +1,0 @@
--- `s & t == s` is the definition.
-use mathlib.Core.Path.{refl}
-use Rattle.group.specs.Heads.{within, common}
-use Rattle.group.proofs.heads.inside.Goals as goal
-
-pub returns : goal.returns
-unfolding within common
-returns c = refl
