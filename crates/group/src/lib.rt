@@ -74,10 +74,6 @@ impl Group {
     pub fn fresh(self, own: u8) -> [u64; Group::WORDS]
         ensures { result ≡ fresh_record self.core self.least own }
     {
-        let mut words = [0; Group::WORDS];
-        for (k, word) in words.iter_mut().enumerate() {
-            *word = self.fresh_word(own, k);
-        }
-        words
+        std::array::from_fn(|k| self.fresh_word(own, k))
     }
 }
