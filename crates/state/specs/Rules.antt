@@ -1,9 +1,26 @@
 -- Line rules 4 to 7 of document 01, "Lines", over the values that a state line carries: "with the sender as own head". A rule is kept if its test passes.
-use Rattle.std.specs.Prelude.{Bool, cond, ◌&&◌, List, ℕ, zero, suc, get_or, ltb, leb, eqb}
+use Rattle.std.specs.Prelude.{Bool, cond, ◌&&◌, List, ℕ, zero, suc, get_or, ltb, leb, eqb, Result, Ok, Err}
 use Rattle.loops.specs.Below.{all_below}
 use Rattle.group.specs.Heads.{has}
 use Rattle.group.specs.Words.{num, rank, sound, primary_ok, formed_ok}
 use Rattle.state.specs.declared.State.{State}
+use Rattle.state.specs.declared.rules.Rule.{Rule}
+use Rattle.state.specs.declared.rules.Rule.TheVariants.{Digits, Length, Head, Empty, Formed, Places, Numbers}
+
+-- the rules of a line by their numbers
+abbrev pub number_of_rule : Rule → ℕ
+number_of_rule Digits = 1
+number_of_rule Length = 2
+number_of_rule Head = 3
+number_of_rule Empty = 4
+number_of_rule Formed = 5
+number_of_rule Places = 6
+number_of_rule Numbers = 7
+
+-- the number of the rule that is broken, 0 for none
+abbrev pub rule_number : Result Unit Rule → ℕ
+rule_number (Ok u) = 0
+rule_number (Err r) = number_of_rule r
 
 -- "(4) a session with no heads is all zero"
 unfoldable pub rule4 : State → Bool

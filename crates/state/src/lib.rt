@@ -7,7 +7,7 @@ ghost use Rattle.std.specs.Prelude.{◌≡◌};
 ghost use Rattle.state.specs.Values.{no_state, nothing_held};
 
 use group::Group;
-pub use rules::{broken, keeps_rules};
+pub use rules::{Rule, broken, keeps_rules};
 
 // The values of a record that its head sends. A session is its word, 0 for none; only the first `count` places count, the others are 0 when read.
 #[repr(C)]

@@ -1,10 +1,11 @@
 // Line rules 4 to 7, with the sender as own head.
-ghost use Rattle.std.specs.Prelude.{◌≡◌, cond, ◌&&◌, ◌≤◌, ◌<◌, get_or, leb, eqb};
+ghost use Rattle.std.specs.List.{list_all, enumerate_from};
+ghost use Rattle.std.specs.Prelude.{◌≡◌, ℕ, fold, true, Bool, cond, ◌&&◌, ◌≤◌, ◌<◌, get_or, leb, eqb, length};
 ghost use Rattle.loops.specs.Below.{all_below};
 ghost use Rattle.group.specs.Heads.{has};
 ghost use Rattle.group.specs.Words.{num, formed_ok};
 ghost use Rattle.group.specs.Words.{sound as sound_of};
-ghost use Rattle.state.specs.Rules.{place_ok, prior, keeps_rules};
+ghost use Rattle.state.specs.Rules.{place_ok, prior, keeps_rules, number_of_rule, rule_number};
 ghost use Rattle.state.specs.Rules.{rule4 as rule4_of, rule5 as rule5_of, rule6 as rule6_of, rule7 as rule7_of, broken as broken_of};
 
 use crate::State;
@@ -13,61 +14,74 @@ use group::words::{
     formed_fits, formed_ok, has_head, number_of, primary_ok, rank_of, sound, usual_formed,
 };
 
-// Each of the first n words is a session with heads, or 0.
-fn all_sound(words: [u64; Group::HEADS], n: usize) -> bool
-    requires { n ≤ 16 }
-    ensures { result ≡ all_below n (λ i. sound_of (get_or words i 0)) }
-{
-    let mut ok = true;
-    for i in 0..n {
-        ok = ok & sound(words[i]);
-    }
-    ok
+// What rules 1 to 7 of a line are about, in their order.
+#[derive(Clone, Copy)]
+pub enum Rule {
+    Digits,
+    Length,
+    Head,
+    Empty,
+    Formed,
+    Places,
+    Numbers,
 }
 
-// Each of the first n words has a number of at most top.
-fn all_within(words: [u64; Group::HEADS], n: usize, top: u64) -> bool
-    requires { n ≤ 16 }
-    ensures { result ≡ all_below n (λ i. leb (num (get_or words i 0)) top) }
-{
-    let mut ok = true;
-    for i in 0..n {
-        ok = ok & (number_of(words[i]) <= top);
+impl From<Rule> for u8 {
+    ghost from_gives = { λ rule number. number ≡ number_of_rule rule };
+
+    fn from(rule: Rule) -> u8 {
+        match rule {
+            Rule::Digits => 1,
+            Rule::Length => 2,
+            Rule::Head => 3,
+            Rule::Empty => 4,
+            Rule::Formed => 5,
+            Rule::Places => 6,
+            Rule::Numbers => 7,
+        }
     }
-    ok
+}
+
+// Each word is a session with heads, or 0.
+fn all_sound(words: &[u64]) -> bool
+    ensures { result ≡ list_all sound_of words.now }
+{
+    words.iter().all(|w| sound(*w))
+}
+
+// Each word has a number of at most top.
+fn all_within(words: &[u64], top: u64) -> bool
+    ensures { result ≡ list_all (λ w. leb (num w) top) words.now }
+{
+    words.iter().all(|w| number_of(*w) <= top)
 }
 
 // Every last formed is what it nearly always is.
-fn all_usual(p: u64, words: [u64; Group::HEADS]) -> bool
-    ensures { result ≡ all_below 16 (λ q. eqb (get_or words q 0) (cond (has p q) p 0)) }
+fn all_usual(p: u64, words: &[u64; Group::HEADS]) -> bool
+    ensures { result ≡ fold (λ (ok : Bool) (x : ℕ × ℕ). ok && eqb x.1 (cond (has p x.0) p 0)) true (enumerate_from 0 words.now) }
 {
-    let mut ok = true;
-    for q in 0..Group::HEADS {
-        ok = ok & (words[q] == usual_formed(p, q));
-    }
-    ok
+    words
+        .iter()
+        .enumerate()
+        .fold(true, |ok, (q, w)| ok & (*w == usual_formed(p, q)))
 }
 
-fn all_formed_ok(own: usize, p: u64, words: [u64; Group::HEADS]) -> bool
+fn all_formed_ok(own: usize, p: u64, words: &[u64; Group::HEADS]) -> bool
     requires { own < 16 }
-    ensures { result ≡ all_below 16 (λ q. formed_ok own p q (get_or words q 0)) }
+    ensures { result ≡ fold (λ (ok : Bool) (x : ℕ × ℕ). ok && formed_ok own p x.0 x.1) true (enumerate_from 0 words.now) }
 {
-    let mut ok = true;
-    for q in 0..Group::HEADS {
-        ok = ok & formed_ok(own, p, q, words[q]);
-    }
-    ok
+    words
+        .iter()
+        .enumerate()
+        .fold(true, |ok, (q, w)| ok & formed_ok(own, p, q, *w))
 }
 
 // Last formed of head own with last primary p. The usual words are tried first: to tell them takes fewer instructions.
-fn formed_kept(own: usize, p: u64, words: [u64; Group::HEADS]) -> bool
+fn formed_kept(own: usize, p: u64, words: &[u64; Group::HEADS]) -> bool
     requires { own < 16 }
-    ensures { result ≡ all_below 16 (λ q. formed_ok own p q (get_or words q 0)) }
+    ensures { result ≡ all_below 16 (λ q. formed_ok own p q (get_or words.now q 0)) }
 {
-    if all_usual(p, words) {
-        return true;
-    }
-    all_formed_ok(own, p, words)
+    all_usual(p, words) || all_formed_ok(own, p, words)
 }
 
 // A place of head own with last primary p, after the place before it.
@@ -78,138 +92,122 @@ fn place_ok(own: usize, p: u64, before: u64, w: u64) -> bool
     (number_of(before) < number_of(w)) & (rank_of(p) < rank_of(w)) & has_head(w, own)
 }
 
-fn all_place_ok(own: usize, p: u64, words: &[u64; Group::HEADS], n: usize) -> bool
-    requires { (own < 16) × (n ≤ 16) }
-    ensures { result ≡ all_below n (λ i. place_ok own p (prior words.now i) (get_or words.now i 0)) }
+// Each place, after the one before it.
+fn all_place_ok(own: usize, p: u64, places: &[u64]) -> bool
+    requires { own < 16 }
+    ensures { result ≡ all_below (length places.now) (λ i. place_ok own p (prior places.now i) (get_or places.now i 0)) }
 {
     let mut ok = true;
-    let mut before: u64 = 0;
-    for i in 0..n {
-        let w = words[i];
-        ok = ok & place_ok(own, p, before, w);
-        before = w;
+    let mut before = 0;
+    for w in places {
+        ok = ok & place_ok(own, p, before, *w);
+        before = *w;
     }
     ok
 }
 
-fn rule4(st: State) -> bool
-    requires { st.count ≤ 16 }
-    ensures { result ≡ rule4_of st }
+fn rule4(st: &State) -> bool
+    requires { st.now.count ≤ 16 }
+    ensures { result ≡ rule4_of st.now }
 {
-    let formed = st.formed;
-    let places = st.places;
-    sound(st.primary) & all_sound(formed, Group::HEADS) & all_sound(places, st.count)
+    sound(st.primary) & all_sound(&st.formed) & all_sound(&st.places[..st.count])
 }
 
-fn rule5(st: State, sender: usize) -> bool
+fn rule5(st: &State, sender: usize) -> bool
     requires { sender < 16 }
-    ensures { result ≡ rule5_of st sender }
+    ensures { result ≡ rule5_of st.now sender }
 {
-    let formed = st.formed;
-    primary_ok(sender, st.primary) & formed_kept(sender, st.primary, formed)
+    primary_ok(sender, st.primary) & formed_kept(sender, st.primary, &st.formed)
 }
 
-fn rule6(st: State, sender: usize) -> bool
-    requires { (sender < 16) × (st.count ≤ 16) }
-    ensures { result ≡ rule6_of st sender }
+fn rule6(st: &State, sender: usize) -> bool
+    requires { (sender < 16) × (st.now.count ≤ 16) }
+    ensures { result ≡ rule6_of st.now sender }
 {
-    let places = st.places;
-    all_place_ok(sender, st.primary, &places, st.count)
+    all_place_ok(sender, st.primary, &st.places[..st.count])
 }
 
-fn rule7(st: State) -> bool
-    requires { st.count ≤ 16 }
-    ensures { result ≡ rule7_of st }
+fn rule7(st: &State) -> bool
+    requires { st.now.count ≤ 16 }
+    ensures { result ≡ rule7_of st.now }
 {
-    let formed = st.formed;
-    let places = st.places;
     let top = st.number as u64;
     (number_of(st.primary) <= top)
-        & all_within(formed, Group::HEADS, top)
-        & all_within(places, st.count, top)
+        & all_within(&st.formed, top)
+        & all_within(&st.places[..st.count], top)
 }
 
-// Rule 6, and that the last place's number is not above the session number. Places are copied only where there are some.
-fn places_kept(st: State, sender: usize) -> bool
-    requires { (sender < 16) × (st.count ≤ 16) }
-    ensures { result ≡ (leb (num (prior st.places st.count)) st.number && rule6_of st sender) }
+// Rule 6, and that the last place's number is not above the session number.
+fn places_kept(st: &State, sender: usize) -> bool
+    requires { (sender < 16) × (st.now.count ≤ 16) }
+    ensures { result ≡ (leb (num (prior st.now.places st.now.count)) st.now.number && rule6_of st.now sender) }
 {
-    let count = st.count;
-    if count == 0 {
+    if st.count == 0 {
         return true;
     }
-    let places = st.places;
-    let top = st.number as u64;
-    (number_of(places[count - 1]) <= top) & all_place_ok(sender, st.primary, &places, count)
+    (number_of(st.places[st.count - 1]) <= st.number as u64) & rule6(st, sender)
 }
 
 // The state keeps rules 4 to 7, by those of their tests from which the others follow. `fit` answers rule 5's test of last formed, which is asked of lines that are read without branches and of held states with them.
-fn keeps_all(st: State, sender: usize, fit: bool) -> bool
-    requires { (sender < 16) × (st.count ≤ 16) × (fit ≡ all_below 16 (λ q. formed_ok sender st.primary q (get_or st.formed q 0))) }
-    ensures { result ≡ eqb (broken_of st sender) 0 }
+fn keeps_all(st: &State, sender: usize, fit: bool) -> bool
+    requires { (sender < 16) × (st.now.count ≤ 16) × (fit ≡ all_below 16 (λ q. formed_ok sender st.now.primary q (get_or st.now.formed q 0))) }
+    ensures { result ≡ eqb (broken_of st.now sender) 0 }
 {
     let p = st.primary;
-    let top = st.number as u64;
-    (number_of(p) <= top) & primary_ok(sender, p) & fit & places_kept(st, sender)
+    (number_of(p) <= st.number as u64) & primary_ok(sender, p) & fit & places_kept(st, sender)
 }
 
 // The first of rules 4 to 7 that the state breaks, each rule by all of its tests.
-fn first_broken(st: State, sender: usize) -> u8
-    requires { (sender < 16) × (st.count ≤ 16) }
-    ensures { result ≡ broken_of st sender }
+fn first_broken(st: &State, sender: usize) -> Result<(), Rule>
+    requires { (sender < 16) × (st.now.count ≤ 16) }
+    ensures { rule_number result ≡ broken_of st.now sender }
 {
     if !rule4(st) {
-        return 4;
+        return Err(Rule::Empty);
     }
     if !rule5(st, sender) {
-        return 5;
+        return Err(Rule::Formed);
     }
     if !rule6(st, sender) {
-        return 6;
+        return Err(Rule::Places);
     }
     if !rule7(st) {
-        return 7;
+        return Err(Rule::Numbers);
     }
-    0
+    Ok(())
 }
 
-// The first of rules 4 to 7 that the state breaks, 0 if it keeps them, as nearly every line does.
-pub fn broken(st: State, sender: usize) -> u8
-    requires { (sender < 16) × (st.count ≤ 16) }
-    ensures { result ≡ broken_of st sender }
+// The first of rules 4 to 7 that the state breaks; nearly every line keeps them.
+pub fn broken(st: &State, sender: usize) -> Result<(), Rule>
+    requires { (sender < 16) × (st.now.count ≤ 16) }
+    ensures { rule_number result ≡ broken_of st.now sender }
 {
-    let formed = st.formed;
-    let p = st.primary;
-    let fit = formed_kept(sender, p, formed);
+    let fit = formed_kept(sender, st.primary, &st.formed);
     if keeps_all(st, sender, fit) {
-        return 0;
+        return Ok(());
     }
     first_broken(st, sender)
 }
 
 // The states that a head holds are nearly always alike: they are judged with branches, and end at the first word that fails.
-fn all_formed_fit(own: usize, p: u64, words: [u64; Group::HEADS]) -> bool
+fn all_formed_fit(own: usize, p: u64, words: &[u64; Group::HEADS]) -> bool
     requires { own < 16 }
-    ensures { result ≡ all_below 16 (λ q. formed_ok own p q (get_or words q 0)) }
+    ensures { result ≡ list_all (λ (x : ℕ × ℕ). formed_ok own p x.0 x.1) (enumerate_from 0 words.now) }
 {
-    for q in 0..Group::HEADS {
-        if !formed_fits(own, p, q, words[q]) {
-            return false;
-        }
-    }
-    true
+    words
+        .iter()
+        .enumerate()
+        .all(|(q, w)| formed_fits(own, p, q, *w))
 }
 
 // The state keeps rules 4 to 7, with at most 16 places.
-pub fn keeps_rules(st: State, sender: usize) -> bool
+pub fn keeps_rules(st: &State, sender: usize) -> bool
     requires { sender < 16 }
-    ensures { result ≡ keeps_rules st sender }
+    ensures { result ≡ keeps_rules st.now sender }
 {
     if Group::PLACES < st.count {
         return false;
     }
-    let formed = st.formed;
-    let p = st.primary;
-    let fit = all_formed_fit(sender, p, formed);
+    let fit = all_formed_fit(sender, st.primary, &st.formed);
     keeps_all(st, sender, fit)
 }

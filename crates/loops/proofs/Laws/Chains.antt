@@ -42,7 +42,7 @@ fold-chain f step b xs d n h e = ap (fold f b) (sym (take-length xs) ∙ ap (λ 
 
 -- ---- tests
 
-all-front : {A : Type 0} (p : A → Bool) (q : ℕ → Bool) (xs : List A) (d : A) (n : ℕ)
+pub all-front : {A : Type 0} (p : A → Bool) (q : ℕ → Bool) (xs : List A) (d : A) (n : ℕ)
     → n ≤ length xs → ((i : ℕ) → i < n → p (get_or xs i d) ≡ q i) → list_all p (take n xs) ≡ all_below n q
 all-front p q xs d zero h e = sym (all_none q)
 all-front p q xs d (suc n) h e =

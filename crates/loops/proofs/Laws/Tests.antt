@@ -9,7 +9,7 @@ use native.Mathlib.Omega.{arith}
 use Rattle.loops.specs.Below.{fold_below, all_below, any_below, every}
 use Rattle.loops.proofs.Laws.Truth.{and_left, and_right, and_both, or_cases, or_left, or_right, fails-if, not-both, clash}
 use Rattle.loops.proofs.Laws.Order.{below_suc}
-use Rattle.loops.proofs.Laws.Fold.{fold-none, fold_next}
+use Rattle.loops.proofs.Laws.Fold.{fold-none, fold_next, fold-cong}
 
 -- ---- all_below
 
@@ -23,6 +23,10 @@ all-next n p = fold_next n (λ i ok. ok && p i) true
 
 pub all_end : (p : ℕ → Bool) (i n : ℕ) → i ≤ n → n ≤ i → all_below i p ≡ all_below n p
 all_end p i n h k = ap (λ (m : ℕ). all_below m p) (omega arith)
+
+pub all-cong : (n : ℕ) (p q : ℕ → Bool) → ((i : ℕ) → i < n → p i ≡ q i) → all_below n p ≡ all_below n q
+unfolding all_below
+all-cong n p q e = fold-cong n _ _ true (λ i ok h. ap (λ (b : Bool). ok && b) (e i h))
 
 pub all-at : (n : ℕ) (p : ℕ → Bool) → all_below n p ≡ true → (i : ℕ) → i < n → p i ≡ true
 unfolding all_below fold_below

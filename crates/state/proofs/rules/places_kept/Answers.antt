@@ -4,12 +4,11 @@ use Rattle.state.specs.Rules.{rule6}
 use Rattle.state.proofs.Laws.Fewer.{no-places, prior-some}
 use Rattle.state.proofs.rules.places_kept.Goals as goal
 
-pub returns-then-count-eq0 : goal.returns-then-count-eq0
-returns-then-count-eq0 c = sym (no-places c.args.st c.args.sender c.if-count-eq0.true)
+pub returns-then-st-eq0 : goal.returns-then-st-eq0
+returns-then-st-eq0 c = sym (no-places c.args.st.now c.args.sender c.if-st-eq0.true)
 
 pub returns : goal.returns
 unfolding rule6
 returns c =
-    let d = c.before.before.before.before.before in
-    let a = d.args in
-    rw (c.number_of.ensures, c.all_place_ok.ensures, prior-some a.st.places a.st.count d.if-count-eq0.false)
+    let st = c.args.st.now in
+    rw (c.number_of.ensures, c.rule6.ensures, prior-some st.places st.count c.if-st-eq0.false)
