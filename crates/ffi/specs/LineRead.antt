@@ -2,8 +2,7 @@
 use Rattle.std.specs.Prelude.{List, ℕ, length}
 use Rattle.lines.specs.Hex.{rest_of}
 use Rattle.lines.specs.Reading.{read_line}
-use Rattle.lines.specs.declared.Line.{Line}
-use Rattle.lines.specs.declared.Line.TheVariants.{StateLine, AttemptLine, Broken}
+use Rattle.lines.specs.Read.{Line, StateLine, AttemptLine, Broken}
 use Rattle.state.specs.declared.State.{State}
 use Rattle.ffi.specs.declared.reading.LineRead.{LineRead}
 

@@ -8,8 +8,8 @@ use Rattle.record.specs.Layout.{own}
 use Rattle.recovery.specs.Changes.{entry_change}
 use Rattle.lines.specs.Reading.{read_whole}
 use Rattle.lines.specs.Writing.{state_line, attempt_line}
-use Rattle.lines.specs.declared.Line.{Line}
-use Rattle.lines.specs.declared.Line.TheVariants as line
+use Rattle.lines.specs.Read.{Line}
+use Rattle.lines.specs.Read as line
 use Rattle.state.specs.declared.State.{State}
 use Rattle.telling.specs.Telling.{tells}
 use Rattle.plan.specs.Attempt.{attempts}

@@ -1,8 +1,8 @@
 -- The first refusal of each call on a session and a record: the refusals of `refusals`, over the numbers that the two hold.
 use Rattle.std.specs.Prelude.{not, cond, List, ℕ}
 use Rattle.lines.specs.Reading.{read_whole}
-use Rattle.lines.specs.declared.Line.{Line}
-use Rattle.lines.specs.declared.Line.TheVariants as line
+use Rattle.lines.specs.Read.{Line}
+use Rattle.lines.specs.Read as line
 use Rattle.record.specs.Layout.{own, entered}
 use Rattle.refusals.specs.Refusals.{enter_refused, state_refused, attempt_refused, decide_refused, form_refused, write_state_refused, write_attempt_refused}
 use Rattle.head.specs.declared.session.Session.{Session}

@@ -11,7 +11,7 @@ use Rattle.record.specs.Layout.{entered, number, primary, formed_for, place_at, 
 use Rattle.recovery.specs.Recover.{mended}
 use Rattle.state.specs.declared.State.{State}
 use Rattle.lines.specs.Reading.{read_whole}
-use Rattle.lines.specs.declared.Line.TheVariants.{StateLine, AttemptLine}
+use Rattle.lines.specs.Read.{StateLine, AttemptLine}
 use Rattle.plan.specs.Members.{held_of}
 use Rattle.head.specs.declared.session.Session.{Session}
 use Rattle.chain.specs.Model.{Sess, Group}

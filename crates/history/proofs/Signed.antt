@@ -13,9 +13,7 @@ use Rattle.group.specs.Answers.{written, refused}
 use Rattle.record.specs.Layout.{own}
 use Rattle.lines.specs.Reading.{read_whole}
 use Rattle.lines.specs.Writing.{state_line, attempt_line}
-use Rattle.lines.specs.declared.Line.{Line}
-use Rattle.lines.specs.declared.Read.{Read}
-use Rattle.lines.specs.declared.Line.TheVariants.{StateLine, AttemptLine, Broken}
+use Rattle.lines.specs.Read.{Line, Read, StateLine, AttemptLine, Broken}
 use Rattle.telling.specs.Telling.{tells}
 use Rattle.head.specs.declared.session.Session.{Session}
 use Rattle.head.specs.Fits.{usable}

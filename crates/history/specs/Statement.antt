@@ -12,8 +12,8 @@ use Rattle.record.specs.Start.{start_spec, taken_least}
 use Rattle.record.specs.Whole.{whole}
 use Rattle.recovery.specs.Recover.{mended, mendable, recover_spec}
 use Rattle.lines.specs.Reading.{read_whole}
-use Rattle.lines.specs.declared.Line.{Line}
-use Rattle.lines.specs.declared.Line.TheVariants as line
+use Rattle.lines.specs.Read.{Line}
+use Rattle.lines.specs.Read as line
 use Rattle.head.specs.declared.session.Session.{Session}
 use Rattle.head.specs.Session.{no_session}
 use Rattle.head.specs.Fits.{usable}

@@ -1,11 +1,13 @@
 -- What the reader answers (document 01, "Lines"): "Rules, in order", over the characters of a line and the frame that they spell.
-use Rattle.std.specs.Prelude.{Bool, cond, not, ◌&&◌, ◌||◌, List, ℕ, ◌+◌, ◌*◌, length, get_or, drop, ltb, leb, eqb}
+use Rattle.std.specs.Prelude.{Bool, cond, not, ◌&&◌, ◌||◌, List, ℕ, ◌+◌, ◌*◌, length, get_or, drop, ltb, leb, eqb, Result, Ok, Err}
 use Rattle.loops.specs.Below.{every}
 use Rattle.state.specs.declared.State.{State}
 use Rattle.state.specs.Values.{no_state, padded}
-use Rattle.state.specs.Rules.{broken}
-use Rattle.lines.specs.declared.Read.{Read}
-use Rattle.lines.specs.declared.Line.TheVariants.{StateLine, AttemptLine, Broken}
+use Rattle.state.specs.declared.rules.Rule.{Rule}
+use Rattle.state.specs.Rules.{broken, number_of_rule}
+use Rattle.lines.specs.declared.Frame.{Frame}
+use Rattle.lines.specs.declared.Frame.TheVariants as frame
+use Rattle.lines.specs.Read.{Read, StateLine, AttemptLine, Broken}
 use Rattle.lines.specs.Hex.{is_digit, unhex, line_end, line_of}
 use Rattle.lines.specs.Frame.{four, six, words}
 
@@ -70,6 +72,12 @@ first_broken l =
 
 unfoldable pub breaks : ℕ → Read
 breaks k = record { line = Broken k; state = no_state }
+
+-- what an answer of the reader says
+abbrev pub read_of : Result Frame Rule → Read
+read_of (Ok (frame.State view sender st)) = record { line = StateLine view sender; state = st }
+read_of (Ok (frame.Attempt view sender)) = record { line = AttemptLine view sender; state = no_state }
+read_of (Err rule) = breaks (number_of_rule rule)
 
 -- what a frame that keeps the rules carries
 unfoldable pub carried : List ℕ → Read

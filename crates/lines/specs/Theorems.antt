@@ -3,9 +3,7 @@ use Rattle.std.specs.Prelude.{◌≡◌, Bool, true, false, List, [], ◌∷◌,
 use Rattle.state.specs.declared.State.{State}
 use Rattle.state.specs.Values.{no_state, Tidy}
 use Rattle.state.specs.Rules.{keeps_rules}
-use Rattle.lines.specs.declared.Line.{Line}
-use Rattle.lines.specs.declared.Read.{Read}
-use Rattle.lines.specs.declared.Line.TheVariants.{StateLine, AttemptLine, Broken}
+use Rattle.lines.specs.Read.{Line, Read, StateLine, AttemptLine, Broken}
 use Rattle.lines.specs.Hex.{rest_of}
 use Rattle.lines.specs.Reading.{breaks, read_line, read_whole}
 use Rattle.lines.specs.Writing.{attempt_line, state_line}

@@ -1,19 +1,11 @@
-// Lines between heads: their form, as definitions and theorems, and what a reader gives of one. The code is in the crates hex, reader and writer.
+// Lines between heads: their form, as definitions and theorems, and what a reader gives of one. The code is in the crates hexadecimal, reader and writer.
 #![tactic(auto)]
 
 use state::State;
 
-// What a line is, or the first rule that it breaks.
+// What a line that keeps the rules says.
 #[derive(Clone, Copy)]
-pub enum Line {
-    StateLine { view: u32, sender: u8 },
-    AttemptLine { view: u32, sender: u8 },
-    Broken { rule: u8 },
-}
-
-// A line and the state that it carries: none but for a state line.
-#[derive(Clone, Copy)]
-pub struct Read {
-    pub line: Line,
-    pub state: State,
+pub enum Frame {
+    State { view: u32, sender: u8, state: State },
+    Attempt { view: u32, sender: u8 },
 }

@@ -5,24 +5,13 @@ mod field;
 
 ghost use Rattle.std.specs.Prelude.{◌≡◌, true, ◌+◌, ◌*◌, ◌≤◌, length};
 ghost use Rattle.lines.specs.Hex.{unhex};
-ghost use Rattle.lines.specs.Reading.{rule1, rule3, kind_of, count_of, state_of, judged, read_line, read_whole};
-ghost use Rattle.lines.specs.Reading.{breaks as breaks_of};
+ghost use Rattle.lines.specs.Reading.{rule1, rule3, kind_of, count_of, state_of, judged, read_line, read_whole, read_of};
 
 use crate::field::{four_at, six_at, words_at};
 use group::Group;
 use hexadecimal::{digits, line_end, put_frame};
-use lines::{Line, Read};
-use state::{State, broken, no_state};
-
-fn breaks(rule: u8) -> Read
-    ensures { result ≡ breaks_of rule }
-{
-    let state = no_state();
-    Read {
-        line: Line::Broken { rule },
-        state,
-    }
-}
+use lines::Frame;
+use state::{Rule, State, broken};
 
 // Rule 3: view and sender.
 fn head_ok(f: &[u8]) -> bool
@@ -52,66 +41,60 @@ fn state_of(f: &[u8]) -> State
 }
 
 // A line of kind 2, and its frame.
-fn judge_attempt(l: &[u8], f: &[u8]) -> Read
+fn judge_attempt(l: &[u8], f: &[u8]) -> Result<Frame, Rule>
     requires { (rule1 l.now ≡ true) × (kind_of (unhex l.now) ≡ 2) × (f.now ≡ unhex l.now) }
-    ensures { result ≡ judged l.now }
+    ensures { read_of result ≡ judged l.now }
 {
     if l.len() != 12 {
-        return breaks(2);
+        return Err(Rule::Length);
     }
     if !head_ok(f) {
-        return breaks(3);
+        return Err(Rule::Head);
     }
-    let view = four_at(f, 1) as u32;
-    let sender = f[5];
-    let state = no_state();
-    Read {
-        line: Line::AttemptLine { view, sender },
-        state,
-    }
+    Ok(Frame::Attempt {
+        view: four_at(f, 1) as u32,
+        sender: f[5],
+    })
 }
 
 // A line of kind 1, and its frame.
-fn judge_state(l: &[u8], f: &[u8]) -> Read
+fn judge_state(l: &[u8], f: &[u8]) -> Result<Frame, Rule>
     requires { (rule1 l.now ≡ true) × (kind_of (unhex l.now) ≡ 1) × (f.now ≡ unhex l.now) }
-    ensures { result ≡ judged l.now }
+    ensures { read_of result ≡ judged l.now }
 {
     if l.len() < 226 {
-        return breaks(2);
+        return Err(Rule::Length);
     }
     let count = f[112] as usize;
     if Group::PLACES < count {
-        return breaks(2);
+        return Err(Rule::Length);
     }
     if l.len() != 226 + 12 * count {
-        return breaks(2);
+        return Err(Rule::Length);
     }
     if !head_ok(f) {
-        return breaks(3);
+        return Err(Rule::Head);
     }
     let state = state_of(f);
     let sender = f[5];
-    let rule = broken(state, sender as usize);
-    if rule != 0 {
-        return breaks(rule);
-    }
-    let view = four_at(f, 1) as u32;
-    Read {
-        line: Line::StateLine { view, sender },
+    broken(&state, sender as usize)?;
+    Ok(Frame::State {
+        view: four_at(f, 1) as u32,
+        sender,
         state,
-    }
+    })
 }
 
 // A line of digits, and its frame.
-fn judge_frame(l: &[u8], f: &[u8]) -> Read
+fn judge_frame(l: &[u8], f: &[u8]) -> Result<Frame, Rule>
     requires { (rule1 l.now ≡ true) × (2 ≤ length l.now) × (f.now ≡ unhex l.now) }
-    ensures { result ≡ judged l.now }
+    ensures { read_of result ≡ judged l.now }
 {
     let kind = f[0];
     match kind {
         1 => judge_state(l, f),
         2 => judge_attempt(l, f),
-        _ => breaks(2),
+        _ => Err(Rule::Length),
     }
 }
 
@@ -122,17 +105,17 @@ const MOST: usize = 418;
 const FRAME: usize = 209;
 
 // Judges the characters of a line that stand before its newline.
-pub fn judge(l: &[u8]) -> Read
-    ensures { result ≡ judged l.now }
+pub fn judge(l: &[u8]) -> Result<Frame, Rule>
+    ensures { read_of result ≡ judged l.now }
 {
     if !digits(l) {
-        return breaks(1);
+        return Err(Rule::Digits);
     }
     if l.len() < 2 {
-        return breaks(2);
+        return Err(Rule::Length);
     }
     if MOST < l.len() {
-        return breaks(2);
+        return Err(Rule::Length);
     }
     let mut frame = [0u8; FRAME];
     put_frame(l, &mut frame);
@@ -141,27 +124,27 @@ pub fn judge(l: &[u8]) -> Read
 }
 
 // Judges the first line of the lent bytes.
-pub fn read_line(s: &[u8]) -> Read
-    ensures { result ≡ read_line s.now }
+pub fn read_line(s: &[u8]) -> Result<Frame, Rule>
+    ensures { read_of result ≡ read_line s.now }
 {
     let e = line_end(s);
     if e < s.len() {
         judge(&s[..e])
     } else {
-        breaks(1)
+        Err(Rule::Digits)
     }
 }
 
 // Judges bytes that are to be one line, with nothing after its newline.
-pub fn read_whole(s: &[u8]) -> Read
-    ensures { result ≡ read_whole s.now }
+pub fn read_whole(s: &[u8]) -> Result<Frame, Rule>
+    ensures { read_of result ≡ read_whole s.now }
 {
     let e = line_end(s);
     if s.len() <= e {
-        return breaks(1);
+        return Err(Rule::Digits);
     }
     if e + 1 != s.len() {
-        return breaks(1);
+        return Err(Rule::Digits);
     }
     judge(&s[..e])
 }

@@ -4,9 +4,7 @@ use Rattle.std.specs.Prelude.{cond, List, [], ◌∷◌, ◌++◌, ℕ, eqb}
 use Rattle.group.specs.Words.{heads, num}
 use Rattle.state.specs.declared.State.{State}
 use Rattle.text.specs.Text.{decimal}
-use Rattle.lines.specs.declared.Line.{Line}
-use Rattle.lines.specs.declared.Line.TheVariants.{StateLine, AttemptLine, Broken}
-use Rattle.lines.specs.declared.Read.{Read}
+use Rattle.lines.specs.Read.{Line, StateLine, AttemptLine, Broken, Read}
 use Rattle.lines.specs.Hex.{hex_of}
 use Rattle.lines.specs.Reading.{read_line}
 use Rattle.lines.specs.Writing.{bytes2}

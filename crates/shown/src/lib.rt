@@ -3,10 +3,12 @@
 
 ghost use Rattle.std.specs.Prelude.{◌≡◌, ◌++◌, ◌∷◌, [], ◌+◌, ◌≤◌, length, take};
 ghost use Rattle.lines.specs.Hex.{hex_of};
+ghost use Rattle.lines.specs.Reading.{read_of};
 ghost use Rattle.shown.specs.Shown.{field, heads_text, number_text, session_text, head_text, values_text, attempt_text, state_text, refused_text, shown, room};
 
 use hexadecimal::digit_of;
-use lines::{Line, Read};
+use lines::Frame;
+use state::{Rule, State};
 use text::{put, put_decimal};
 
 // A space and a number.
@@ -97,20 +99,12 @@ fn print_attempt(out: &mut [u8], at: usize, view: u64, sender: u64) -> usize
     put(out, a, 10)
 }
 
-fn print_state(
-    out: &mut [u8],
-    at: usize,
-    view: u64,
-    sender: u64,
-    number: u64,
-    primary: u64,
-    count: u64,
-) -> usize
+fn print_state(out: &mut [u8], at: usize, view: u64, sender: u64, st: &State) -> usize
     requires { at + 112 ≤ length out.old }
-    ensures { (result ≤ at + 112) × (take result out.new ≡ take at out.old ++ state_text view sender number primary count) }
+    ensures { (result ≤ at + 112) × (take result out.new ≡ take at out.old ++ state_text view sender st.now.number st.now.primary st.now.count) }
 {
     let a = put_head(out, at, 83, view, sender);
-    let b = put_values(out, a, number, primary, count);
+    let b = put_values(out, a, st.number as u64, st.primary, st.count as u64);
     put(out, b, 10)
 }
 
@@ -126,25 +120,21 @@ pub fn print_refused(out: &mut [u8], at: usize) -> usize
 }
 
 // Prints the answer at a place, and answers with the next one.
-pub fn print(read: Read, out: &mut [u8], at: usize) -> usize
-    requires { at + room read.line ≤ length out.old }
-    ensures { (result ≤ at + room read.line) × (take result out.new ≡ take at out.old ++ shown read) }
+pub fn print(read: &Result<Frame, Rule>, out: &mut [u8], at: usize) -> usize
+    requires { at + room (read_of read.now).line ≤ length out.old }
+    ensures { (result ≤ at + room (read_of read.now).line) × (take result out.new ≡ take at out.old ++ shown (read_of read.now)) }
 {
-    let line = read.line;
-    match line {
-        Line::StateLine { view, sender } => {
-            let st = read.state;
-            print_state(
-                out,
-                at,
-                view as u64,
-                sender as u64,
-                st.number as u64,
-                st.primary,
-                st.count as u64,
-            )
+    match read {
+        Ok(
+            Frame::State {
+                view,
+                sender,
+                state,
+            },
+        ) => print_state(out, at, *view as u64, *sender as u64, state),
+        Ok(Frame::Attempt { view, sender }) => {
+            print_attempt(out, at, *view as u64, *sender as u64)
         }
-        Line::AttemptLine { view, sender } => print_attempt(out, at, view as u64, sender as u64),
-        Line::Broken { rule } => print_refused(out, at),
+        Err(_) => print_refused(out, at),
     }
 }

@@ -23,8 +23,7 @@ fn print_line(l: &[u8], out: &mut [u8], at: usize) -> usize
     requires { at + room (judged l.now).line ≤ length out.old }
     ensures { (result ≤ at + room (judged l.now).line) × (take result out.new ≡ take at out.old ++ shown (judged l.now)) }
 {
-    let read = judge(l);
-    print(read, out, at)
+    print(&judge(l), out, at)
 }
 
 // Prints a line for each whole line of s; held are the bytes of s after the last of them.

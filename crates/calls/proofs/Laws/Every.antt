@@ -25,8 +25,7 @@ use Rattle.recovery.proofs.Laws.Small.{entry-sound}
 use Rattle.recovery.proofs.Laws.Sounds.{sounds-one}
 use Rattle.recovery.proofs.Laws.Cut.{recovers-done}
 use Rattle.state.specs.declared.Held.{Held}
-use Rattle.lines.specs.declared.Line.{Line}
-use Rattle.lines.specs.declared.Line.TheVariants.{StateLine, AttemptLine, Broken}
+use Rattle.lines.specs.Read.{Line, StateLine, AttemptLine, Broken}
 use Rattle.lines.specs.Reading.{read_whole}
 use Rattle.plan.specs.Attempt.{highest_number, quorate, lowest_free, decision}
 use Rattle.plan.specs.Decide.{after_c, decide_program, decide_answer, decide_changes}

@@ -39,8 +39,7 @@ use Rattle.fitting.specs.Fits.{view_fits, heard_fits, state_fits as state_fits_f
 use Rattle.head.specs.Fits.{held_fits, fits, usable}
 use Rattle.head.specs.Refusals.{enter_refusal, state_refusal, hear_state_refusal, attempt_refusal, hear_attempt_refusal, decide_refusal, form_refusal, write_state_refusal, write_attempt_refusal}
 use Rattle.head.specs.Calls.{under, stores, entry_step, enter_spec, hear_state_spec, hear_attempt_spec, decided_stage, decide_spec, form_spec, writes, write_state_spec, write_attempt_spec, enter_changes, decides_changes, forms_changes}
-use Rattle.lines.specs.declared.Line.{Line}
-use Rattle.lines.specs.declared.Line.TheVariants.{StateLine, AttemptLine, Broken}
+use Rattle.lines.specs.Read.{Line, StateLine, AttemptLine, Broken}
 use Rattle.history.specs.Setting.{Setting}
 use Rattle.examples.specs.Examples.{Leads, here, on}
 use Rattle.history.specs.Statement.{Sent, Head, unstarted, running, World, Call, enter, hear-state, hear-attempt, decide, form, recover, write-state, write-attempt, Event, start, call, empty as empty_world, step, SentBefore, Given, May, History, more, insert, in_order}

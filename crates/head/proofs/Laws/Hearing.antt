@@ -10,9 +10,7 @@ use denote.Enum.Declared.{tag_of}
 use types.Run.{OneOf}
 use Rattle.group.specs.declared.answers.Refusal.{Refusal}
 use Rattle.group.specs.Answers.{refusal_number, heard}
-use Rattle.lines.specs.declared.Line.{Line}
-use Rattle.lines.specs.declared.Line.TheVariants.{StateLine, AttemptLine, Broken}
-use Rattle.lines.specs.declared.Read.{Read}
+use Rattle.lines.specs.Read.{Line, StateLine, AttemptLine, Broken, Read}
 use Rattle.lines.specs.Reading.{read_whole}
 use Rattle.lines.specs.Theorems.{KeptLine, HeadKept, StateKept}
 use Rattle.lines.proofs.Laws.Theorems.{whole-keeps}

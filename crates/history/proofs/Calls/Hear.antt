@@ -17,8 +17,7 @@ use Rattle.recovery.proofs.Laws.Still.{mended-whole}
 use Rattle.state.specs.declared.State.{State}
 use Rattle.lines.specs.Reading.{read_whole}
 use Rattle.lines.specs.Theorems.{HeadKept, StateKept}
-use Rattle.lines.specs.declared.Line.{Line}
-use Rattle.lines.specs.declared.Line.TheVariants.{StateLine, AttemptLine, Broken}
+use Rattle.lines.specs.Read.{Line, StateLine, AttemptLine, Broken}
 use Rattle.plan.specs.Members.{absent, held_of}
 use Rattle.head.specs.declared.session.Session.{Session}
 use Rattle.head.specs.Session.{with_state, with_attempt}

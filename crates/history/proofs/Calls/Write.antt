@@ -20,9 +20,7 @@ use Rattle.state.specs.Values.{no_state}
 use Rattle.lines.specs.Reading.{read_whole}
 use Rattle.lines.specs.Writing.{state_line, attempt_line}
 use Rattle.lines.specs.Theorems.{HeadKept}
-use Rattle.lines.specs.declared.Line.{Line}
-use Rattle.lines.specs.declared.Read.{Read}
-use Rattle.lines.specs.declared.Line.TheVariants.{StateLine, AttemptLine, Broken}
+use Rattle.lines.specs.Read.{Line, Read, StateLine, AttemptLine, Broken}
 use Rattle.lines.proofs.Laws.Theorems.{whole_back}
 use Rattle.telling.specs.Telling.{tells}
 use Rattle.telling.proofs.Laws.Telling.{tells-number, tells-primary, tells-formed, used-told, tells-keeps, tells-tidy}

@@ -2,7 +2,7 @@
 use mathlib.Core.Path.{sym, ◌≡◌, refl}
 use mathlib.Core.Bool.{Bool, cond, ◌&&◌, true, false, not}
 use mathlib.Core.Logic.{◌⊎◌, inl, inr, ⊎_elim}
-use Rattle.lines.specs.declared.Read.{Read}
+use Rattle.lines.specs.Read.{Read, StateLine, AttemptLine}
 use Rattle.loops.proofs.Laws.Truth.{or_cases, clash, fails-if, cond-elim, and_left, and_right}
 use mathlib.Core.List.{List, [], ◌∷◌}
 use Prim.Native.Nat.{ℕ, ◌+◌, ◌*◌, ◌≤◌, ◌<◌}
@@ -12,7 +12,6 @@ use lib.ListN.{length}
 use lib.Dec.{leb, eqb}
 use Rattle.state.specs.Values.{no_state}
 use Rattle.state.specs.Rules.{broken}
-use Rattle.lines.specs.declared.Line.TheVariants.{StateLine, AttemptLine}
 use Rattle.lines.specs.Hex.{unhex, line_end, line_of}
 use Rattle.lines.specs.Reading.{kind_of, view_of, sender_of, count_of, state_of, rule1, state_fits, rule2, rule3, later_broken, first_broken, breaks, carried, answer, judged, read_line, read_whole}
 use Rattle.lines.specs.Theorems.{WasRead}

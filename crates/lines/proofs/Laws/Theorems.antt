@@ -12,9 +12,7 @@ use lib.Dec.{ltb, eqb}
 use Rattle.loops.proofs.Laws.Truth.{cond-elim, passes-or-fails}
 use Rattle.state.specs.declared.State.{State}
 use Rattle.state.specs.Rules.{rule4, rule5, rule6, rule7, broken}
-use Rattle.lines.specs.declared.Line.{Line}
-use Rattle.lines.specs.declared.Read.{Read}
-use Rattle.lines.specs.declared.Line.TheVariants.{StateLine, AttemptLine, Broken}
+use Rattle.lines.specs.Read.{Line, Read, StateLine, AttemptLine, Broken}
 use Rattle.lines.specs.Hex.{hex_of, unhex, line_end, line_of, rest_of}
 use Rattle.lines.specs.Reading.{kind_of, sender_of, state_of, rule1, rule2, rule3, later_broken, first_broken, carried, answer, judged, read_line, read_whole, breaks}
 use Rattle.lines.specs.Writing.{attempt_frame, state_frame, line_for, attempt_line, state_line}

@@ -17,8 +17,7 @@ use Rattle.state.specs.declared.State.{State}
 use Rattle.state.specs.Values.{no_state, padded, Tidy}
 use Rattle.state.specs.Rules.{broken, keeps_rules}
 use Rattle.state.proofs.Laws.Kept.{Kept, kept}
-use Rattle.lines.specs.declared.Read.{Read}
-use Rattle.lines.specs.declared.Line.TheVariants.{StateLine, AttemptLine}
+use Rattle.lines.specs.Read.{Read, StateLine, AttemptLine}
 use Rattle.lines.specs.Hex.{hex_of, unhex, line_end, line_of, rest_of}
 use Rattle.lines.specs.Frame.{four, six, words}
 use Rattle.lines.specs.Reading.{kind_of, view_of, sender_of, count_of, state_of, rule1, rule3, state_fits, later_broken, judged, read_line}

@@ -16,17 +16,17 @@ half s = ap length s.requires.2 ∙ length-unhex s.args.l.now
 
 pub returns-then-l-ne12 : goal.returns-then-l-ne12
 returns-then-l-ne12 c =
-    c.breaks.ensures ∙ sym (attempt-length _ c.requires.0 c.requires.1 c.if-l-ne12.true)
+    sym (attempt-length _ c.requires.0 c.requires.1 c.if-l-ne12.true)
 
 pub head_ok-requires : goal.head_ok-requires
 head_ok-requires c = omega (arith, half (goal.at.head_ok-requires c).Start)
 
 pub returns-then-not-head_ok : goal.returns-then-not-head_ok
 returns-then-not-head_ok c =
-    c.breaks-then-not-head_ok.ensures ∙ sym (attempt-head _ c.requires.0 c.requires.1 c.if-l-ne12.false (failed _ _ (c.head_ok.ensures ∙ ap rule3 c.requires.2) c.if-not-head_ok.true-raw))
+    sym (attempt-head _ c.requires.0 c.requires.1 c.if-l-ne12.false (failed _ _ (c.head_ok.ensures ∙ ap rule3 c.requires.2) c.if-not-head_ok.true-raw))
 
-pub four_at-view-requires : goal.four_at-view-requires
-four_at-view-requires c = omega (arith, half (goal.at.four_at-view-requires c).Start)
+pub four_at-requires : goal.four_at-requires
+four_at-requires c = omega (arith, half (goal.at.four_at-requires c).Start)
 
 pub bounds-f-5 : goal.bounds-f-5
 bounds-f-5 c = omega (arith, half (goal.at.bounds-f-5 c).Start)
@@ -34,4 +34,4 @@ bounds-f-5 c = omega (arith, half (goal.at.bounds-f-5 c).Start)
 pub returns : goal.returns
 unfolding view_of sender_of
 returns c =
-    rw (c.no_state-state.ensures, c.four_at-view.ensures.0, c.requires.2) (sym (attempt-kept _ c.requires.0 c.requires.1 c.if-l-ne12.false (passed _ _ (c.head_ok.ensures ∙ ap rule3 c.requires.2) c.if-not-head_ok.false-raw)))
+    rw (c.four_at.ensures.0, c.requires.2) (sym (attempt-kept _ c.requires.0 c.requires.1 c.if-l-ne12.false (passed _ _ (c.head_ok.ensures ∙ ap rule3 c.requires.2) c.if-not-head_ok.false-raw)))

@@ -35,4 +35,4 @@ returns-in-2 c = c.judge_attempt.ensures
 
 pub returns-in_default : goal.returns-in_default
 returns-in_default c =
-    c.breaks.ensures ∙ sym (line_other _ c.requires.0 (λ e. c.in_default.in_default-own.rest.0.1 (kind (goal.at.returns-in_default c).Start ∙ e)) (λ e. c.in_default.in_default-own.rest.1 (kind (goal.at.returns-in_default c).Start ∙ e)))
+    sym (line_other _ c.requires.0 (λ e. c.in_default.in_default-own.rest.0.1 (kind (goal.at.returns-in_default c).Start ∙ e)) (λ e. c.in_default.in_default-own.rest.1 (kind (goal.at.returns-in_default c).Start ∙ e)))

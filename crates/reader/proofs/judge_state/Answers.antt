@@ -1,11 +1,14 @@
 -- Each return is the case of the definition that the tests before it leave.
+use Rattle.std.proofs.lemmas.Result.{err_from_is_err_and}
 use Rattle.lines.proofs.Laws.Hex.{length-unhex}
 use Rattle.lines.proofs.Laws.Reading.{fits-ok, fits-many, fits-length, head-true, state-length, state-head, state-broken, state-kept}
 use Rattle.loops.proofs.Laws.Truth.{failed, passed}
 use mathlib.Core.Bool.{true}
 use mathlib.Core.List.{List}
 use Rattle.state.specs.declared.State.{State}
-use Rattle.state.specs.Rules.{broken}
+use Rattle.state.specs.declared.rules.Rule.{Rule}
+use Rattle.state.specs.declared.rules.Rule.TheVariants.{Digits, Length, Head, Empty, Formed, Places, Numbers}
+use Rattle.state.specs.Rules.{broken, number_of_rule}
 use Rattle.lines.specs.Reading.{state_fits, rule3, view_of, sender_of, count_of, state_of}
 use Rattle.lines.specs.Hex.{unhex}
 use lib.ListN.{length, get_or}
@@ -29,6 +32,15 @@ later s st e =
     ap (λ (t : State). broken t (get_or s.args.f.now 5 0)) e
     ∙ ap (λ (f : List ℕ). broken (state_of f) (get_or f 5 0)) s.requires.2
 
+some-rule : (r : Rule) → number_of_rule r ≡ 0 → ⊥
+some-rule Digits e = absurd (omega arith)
+some-rule Length e = absurd (omega arith)
+some-rule Head e = absurd (omega arith)
+some-rule Empty e = absurd (omega arith)
+some-rule Formed e = absurd (omega arith)
+some-rule Places e = absurd (omega arith)
+some-rule Numbers e = absurd (omega arith)
+
 -- past the test of the length, and past the test of view and sender
 abbrev first : Else-l-count → Start
 first c = c.before.before.before.before.before.before.before
@@ -42,7 +54,7 @@ heads c = passed _ _ (c.head_ok.ensures ∙ ap rule3 c.requires.2) c.if-not-head
 
 pub returns-then-l-lt226 : goal.returns-then-l-lt226
 returns-then-l-lt226 c =
-    c.breaks.ensures ∙ sym (state-length _ c.requires.0 c.requires.1 (fits-length _ _ (λ e. omega arith)))
+    sym (state-length _ c.requires.0 c.requires.1 (fits-length _ _ (λ e. omega arith)))
 
 pub bounds-f-112 : goal.bounds-f-112
 bounds-f-112 c = omega (arith, half (goal.at.bounds-f-112 c).Start)
@@ -53,19 +65,19 @@ overflow_cast-count c = omega (arith, c.shared_slice_known-3-1.given 112)
 pub returns-then-count-gt-PLACES : goal.returns-then-count-gt-PLACES
 unfolding count_of
 returns-then-count-gt-PLACES c =
-    c.breaks-then-count-gt-PLACES.ensures ∙ sym (state-length _ c.requires.0 c.requires.1 (fits-many _ _ (omega (arith, byte (goal.at.returns-then-count-gt-PLACES c).Start 112))))
+    sym (state-length _ c.requires.0 c.requires.1 (fits-many _ _ (omega (arith, byte (goal.at.returns-then-count-gt-PLACES c).Start 112))))
 
 pub returns-then-l-count : goal.returns-then-l-count
 unfolding count_of
 returns-then-l-count c =
-    c.breaks-then-l-count.ensures ∙ sym (state-length _ c.requires.0 c.requires.1 (fits-length _ _ (λ e. c.if-l-count.true (omega (arith, byte (goal.at.returns-then-l-count c).Start 112)))))
+    sym (state-length _ c.requires.0 c.requires.1 (fits-length _ _ (λ e. c.if-l-count.true (omega (arith, byte (goal.at.returns-then-l-count c).Start 112)))))
 
 pub head_ok-requires : goal.head_ok-requires
 head_ok-requires c = omega (arith, half (goal.at.head_ok-requires c).Start)
 
 pub returns-then-not-head_ok : goal.returns-then-not-head_ok
 returns-then-not-head_ok c =
-    c.breaks-then-not-head_ok.ensures ∙ sym (state-head _ c.requires.0 c.requires.1 (fits (goal.at.returns-then-not-head_ok c).Else-l-count) (failed _ _ (c.head_ok.ensures ∙ ap rule3 c.requires.2) c.if-not-head_ok.true-raw))
+    sym (state-head _ c.requires.0 c.requires.1 (fits (goal.at.returns-then-not-head_ok c).Else-l-count) (failed _ _ (c.head_ok.ensures ∙ ap rule3 c.requires.2) c.if-not-head_ok.true-raw))
 
 pub state_of-state-requires : goal.state_of-state-requires
 unfolding count_of
@@ -77,21 +89,25 @@ bounds-f-5 c = omega (arith, half (goal.at.bounds-f-5 c).Start)
 pub overflow_cast-sender : goal.overflow_cast-sender
 overflow_cast-sender c = omega (arith, c.shared_slice_known-4-1.given 5)
 
-pub broken-rule-requires : goal.broken-rule-requires
+pub broken-requires : goal.broken-requires
 unfolding sender_of count_of state_of
-broken-rule-requires c =
+broken-requires c =
     let k = ap (λ (st : State). st.count) c.state_of-state.ensures in
-    (omega (arith, head-true _ (heads (goal.at.broken-rule-requires c).Else-not-head_ok), byte (goal.at.broken-rule-requires c).Start 5), omega (arith, k))
+    (omega (arith, head-true _ (heads (goal.at.broken-requires c).Else-not-head_ok), byte (goal.at.broken-requires c).Start 5), omega (arith, k))
 
-pub returns-then-rule-ne0 : goal.returns-then-rule-ne0
-unfolding sender_of
-returns-then-rule-ne0 c =
-    c.breaks-then-rule-ne0.ensures ∙ sym (state-broken _ c.requires.0 c.requires.1 (fits (goal.at.returns-then-rule-ne0 c).Else-l-count) (heads (goal.at.returns-then-rule-ne0 c).Else-not-head_ok) _ (c.broken-rule.ensures ∙ later (goal.at.returns-then-rule-ne0 c).Start _ c.state_of-state.ensures) c.if-rule-ne0.true)
+pub returns-in_err-broken : goal.returns-in_err-broken
+returns-in_err-broken c =
+    let p = err_from_is_err_and c.from_residual.result c.from_residual.ensures.1 in
+    rw (p.1, p.2)
+    (sym
+    (state-broken _ c.requires.0 c.requires.1 (fits (goal.at.returns-in_err-broken c).Else-l-count) (heads (goal.at.returns-in_err-broken c).Else-not-head_ok) _
+    (c.in_err-broken.ensures ∙ later (goal.at.returns-in_err-broken c).Start _ c.state_of-state.ensures)
+    (some-rule c.in_err-broken.field-0.0)))
 
-pub four_at-view-requires : goal.four_at-view-requires
-four_at-view-requires c = omega (arith, half (goal.at.four_at-view-requires c).Start)
+pub four_at-requires : goal.four_at-requires
+four_at-requires c = omega (arith, half (goal.at.four_at-requires c).Start)
 
 pub returns : goal.returns
 unfolding view_of sender_of
 returns c =
-    rw (c.four_at-view.ensures.0, c.state_of-state.ensures, c.requires.2) (sym (state-kept _ c.requires.0 c.requires.1 (fits (goal.at.returns c).Else-l-count) (heads (goal.at.returns c).Else-not-head_ok) (sym (c.broken-rule.ensures ∙ later (goal.at.returns c).Start _ c.state_of-state.ensures) ∙ c.if-rule-ne0.false)))
+    rw (c.four_at.ensures.0, c.state_of-state.ensures, c.requires.2) (sym (state-kept _ c.requires.0 c.requires.1 (fits (goal.at.returns c).Else-l-count) (heads (goal.at.returns c).Else-not-head_ok) (sym (later (goal.at.returns c).Start _ c.state_of-state.ensures) ∙ sym (c.in_ok-broken.ensures))))

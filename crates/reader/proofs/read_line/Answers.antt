@@ -23,4 +23,4 @@ pub returns-else-e-s : goal.returns-else-e-s
 returns-else-e-s c =
     let s = c.args.s.now in
     let h : length s ≤ line_end s = omega (arith, c.line_end-e.ensures) in
-    c.breaks.ensures ∙ sym (no_line-breaks s h)
+    sym (no_line-breaks s h)

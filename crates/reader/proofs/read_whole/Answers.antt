@@ -11,11 +11,11 @@ use Rattle.reader.proofs.read_whole.Goals as goal
 
 pub returns-then-s-e : goal.returns-then-s-e
 returns-then-s-e c =
-    c.breaks.ensures ∙ sym (not-whole c.args.s.now (λ e. omega (arith, e, c.line_end-e.ensures)))
+    sym (not-whole c.args.s.now (λ e. omega (arith, e, c.line_end-e.ensures)))
 
 pub returns-then-e-s : goal.returns-then-e-s
 returns-then-e-s c =
-    c.breaks-then-e-s.ensures ∙ sym (not-whole c.args.s.now (λ e. c.if-e-s.true (omega (arith, e, c.line_end-e.ensures))))
+    sym (not-whole c.args.s.now (λ e. c.if-e-s.true (omega (arith, e, c.line_end-e.ensures))))
 
 pub slice_bounds-judge-end : goal.slice_bounds-judge-end
 slice_bounds-judge-end c = sym (length-take-le c.line_end-e.result c.args.s.now (omega arith))

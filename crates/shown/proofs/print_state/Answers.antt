@@ -10,4 +10,4 @@ pub returns : goal.returns
 unfolding state_text
 returns c =
     let s = c.args in
-    (omega arith, put_three (take s.at s.out.now) (head_text 83 s.view s.sender) (values_text s.number s.primary s.count) (10 ∷ []) c.put_head-a.ensures.1 c.put_values-b.ensures.1 c.put.ensures.1)
+    (omega arith, put_three (take s.at s.out.now) (head_text 83 s.view s.sender) (values_text s.st.now.number s.st.now.primary s.st.now.count) (10 ∷ []) c.put_head-a.ensures.1 c.put_values-b.ensures.1 c.put.ensures.1)

@@ -7,9 +7,7 @@ use Prim.Native.Nat.{ℕ, ◌+◌, ◌*◌, ◌≤◌, ◌<◌}
 use native.Mathlib.Omega.{arith}
 use lib.ListN.{length, length-append}
 use Rattle.state.specs.declared.State.{State}
-use Rattle.lines.specs.declared.Line.{Line}
-use Rattle.lines.specs.declared.Line.TheVariants.{StateLine, AttemptLine, Broken}
-use Rattle.lines.specs.declared.Read.{Read}
+use Rattle.lines.specs.Read.{Line, StateLine, AttemptLine, Broken, Read}
 use Rattle.lines.specs.Hex.{line_end, line_of, rest_of}
 use Rattle.lines.specs.Reading.{breaks, judged, read_line}
 use Rattle.lines.specs.Walk.{whole_lines}

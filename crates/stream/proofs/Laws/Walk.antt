@@ -6,7 +6,7 @@ use native.Mathlib.Numerals.{add-one}
 use native.Mathlib.Omega.{arith}
 use lib.ListN.{length, take, drop, length-drop}
 use lib.Seq.{take_all, drop-drop, take-add, take-take, drop_at, length-take-le}
-use Rattle.lines.specs.declared.Read.{Read}
+use Rattle.lines.specs.Read.{Read}
 use Rattle.lines.specs.Hex.{line_end, line_of, rest_of}
 use Rattle.lines.specs.Reading.{judged, read_line}
 use Rattle.lines.specs.Walk.{whole_lines, begun, last_line}

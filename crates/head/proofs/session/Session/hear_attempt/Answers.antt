@@ -3,8 +3,7 @@ use Rattle.head.proofs.Laws.Hearing.{attempt-judged, hear-attempt-line, attempt-
 use mathlib.Core.Bool.{true}
 use mathlib.Core.Path.{◌≡◌, sym, ap, ◌∙◌}
 use Rattle.loops.proofs.Laws.Truth.{failed, passed}
-use Rattle.lines.specs.declared.Line.TheVariants.{AttemptLine}
-use Rattle.lines.specs.declared.Read.{Read}
+use Rattle.lines.specs.Read.{AttemptLine, Read}
 use Rattle.lines.specs.Reading.{read_whole}
 use Rattle.group.specs.declared.answers.Refusal.TheVariants as refusal
 use Rattle.head.specs.Fits.{usable}

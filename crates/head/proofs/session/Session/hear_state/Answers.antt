@@ -3,8 +3,7 @@ use Rattle.head.proofs.Laws.Hearing.{state-judged, hear-state-line, state-kept, 
 use mathlib.Core.Bool.{true}
 use mathlib.Core.Path.{◌≡◌, sym, ap, ◌∙◌}
 use Rattle.loops.proofs.Laws.Truth.{failed, passed}
-use Rattle.lines.specs.declared.Line.TheVariants.{StateLine}
-use Rattle.lines.specs.declared.Read.{Read}
+use Rattle.lines.specs.Read.{StateLine, Read}
 use Rattle.lines.specs.Reading.{read_whole}
 use Rattle.group.specs.declared.answers.Refusal.TheVariants as refusal
 use Rattle.head.specs.Fits.{usable}
