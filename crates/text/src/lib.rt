@@ -1,68 +1,61 @@
-// Text into a lent buffer: each function puts its text at a place and answers with the next one.
+// Text into a lent buffer: each method puts its text after what was put before.
 #![tactic(auto)]
 
-ghost use Rattle.std.specs.Prelude.{◌≡◌, ◌++◌, ◌∷◌, [], ◌+◌, ◌/◌, ◌%◌, ◌≤◌, ◌<◌, length, take, set};
+ghost use Rattle.std.specs.Prelude.{◌≡◌, ◌∷◌, [], ◌+◌, ◌≤◌, ◌<◌, length};
 ghost use Rattle.text.specs.Text.{decimal, last_digits};
+ghost use Rattle.text.specs.Printer.{Room, Puts};
 
-pub fn put(out: &mut [u8], at: usize, b: u8) -> usize
-    requires { at < length out.old }
-    ensures { (result ≡ at + 1) × (take result out.new ≡ take at out.old ++ (b ∷ [])) }
-{
-    out[at] = b;
-    at + 1
+// A lent buffer and how far it is filled.
+#[derive(Drop)]
+pub struct Printer<'a> {
+    pub out: &'a mut [u8],
+    pub end: usize,
 }
 
-// How many digits n has, counted by pairs.
+// Puts the last digits of n, as many as there is room for.
+fn put_digits(digits: &mut [u8], n: u64)
+    ensures { digits.new ≡ last_digits (length digits.old) n }
+{
+    if let Some((front, pair)) = digits.split_last_chunk_mut::<2>() {
+        *pair = [48 + (n / 10 % 10) as u8, 48 + (n % 10) as u8];
+        put_digits(front, n / 100);
+    } else if let Some(digit) = digits.first_mut() {
+        *digit = 48 + (n % 10) as u8;
+    }
+}
+
+// How many digits n has.
 fn digit_count(n: u64) -> usize
-    ensures { result ≡ length (decimal n) }
+    ensures digits { result ≡ length (decimal n) }
+    ensures bound { result ≤ 20 }
 {
-    let mut m = n;
-    let mut pairs = 0;
-    while pairs < 9 && 100 <= m {
-        m = m / 100;
-        pairs += 1;
-    }
-    if m < 10 {
-        return pairs * 2 + 1;
-    }
-    pairs * 2 + 2
+    n.checked_ilog10().map_or(1, |power| power as usize + 1)
 }
 
-// Puts the last two digits of n.
-fn put_pair(out: &mut [u8], at: usize, n: u64)
-    requires { at + 2 ≤ length out.old }
-    ensures { out.new ≡ set (set out.old at (48 + n / 10 % 10)) (at + 1) (48 + n % 10) }
-{
-    let d = (n % 100) as u8;
-    out[at] = 48 + d / 10;
-    out[at + 1] = 48 + d % 10;
-}
+impl Printer<'_> {
+    pub fn put(&mut self, b: u8)
+        requires { Room 1 self.old }
+        ensures { Puts 1 (b ∷ []) self.old self.new }
+    {
+        self.out[self.end] = b;
+        self.end += 1;
+    }
 
-// Puts the last `count` digits of n, from the last one back.
-fn put_digits(out: &mut [u8], at: usize, n: u64, count: usize)
-    requires { at + count ≤ length out.old }
-    ensures { take (at + count) out.new ≡ take at out.old ++ last_digits count n }
-{
-    let mut m = n;
-    let mut left = count;
-    while 2 <= left {
-        left -= 2;
-        put_pair(out, at + left, m);
-        m = m / 100;
+    pub fn put_text(&mut self, text: &[u8])
+        requires { Room (length text.now) self.old }
+        ensures { Puts (length text.now) text.now self.old self.new }
+    {
+        let end = self.end + text.len();
+        self.out[self.end..end].copy_from_slice(text);
+        self.end = end;
     }
-    if left == 1 {
-        out[at] = 48 + (m % 10) as u8;
-    }
-}
 
-pub fn put_decimal(out: &mut [u8], at: usize, n: u64) -> usize
-    requires { at + 20 ≤ length out.old }
-    ensures { (result ≤ at + 20) × (take result out.new ≡ take at out.old ++ decimal n) }
-{
-    if n < 10 {
-        return put(out, at, 48 + n as u8);
+    pub fn put_decimal(&mut self, n: u64)
+        requires { Room 20 self.old }
+        ensures { Puts 20 (decimal n) self.old self.new }
+    {
+        let end = self.end + digit_count(n);
+        put_digits(&mut self.out[self.end..end], n);
+        self.end = end;
     }
-    let count = digit_count(n);
-    put_digits(out, at, n, count);
-    at + count
 }
