@@ -1,128 +1,124 @@
 // What is printed for a line that was judged.
 #![tactic(auto)]
 
-ghost use Rattle.std.specs.Prelude.{◌≡◌, ◌++◌, ◌∷◌, [], ◌+◌, ◌≤◌, length, take};
+ghost use Rattle.std.specs.Prelude.{◌∷◌, []};
 ghost use Rattle.lines.specs.Hex.{hex_of};
 ghost use Rattle.lines.specs.Reading.{read_of};
+ghost use Rattle.text.specs.Printer.{Room, Puts};
 ghost use Rattle.shown.specs.Shown.{field, heads_text, number_text, session_text, head_text, values_text, attempt_text, state_text, refused_text, shown, room};
 
 use hexadecimal::digit_of;
 use lines::Frame;
 use state::{Rule, State};
-use text::{put, put_decimal};
+use text::Printer;
 
 // A space and a number.
-pub fn put_field(out: &mut [u8], at: usize, n: u64) -> usize
-    requires { at + 21 ≤ length out.old }
-    ensures { (result ≤ at + 21) × (take result out.new ≡ take at out.old ++ field n) }
+#[tactic(auto, unfolding(crate::specs::Shown::field))]
+pub fn put_field(printer: &mut Printer, n: u64)
+    requires { Room 21 printer.old }
+    ensures { Puts 21 (field n) printer.old printer.new }
 {
-    let a = put(out, at, 32);
-    put_decimal(out, a, n)
+    printer.put(32);
+    printer.put_decimal(n);
 }
 
 // A byte in two digits.
-fn put_byte(out: &mut [u8], at: usize, b: u8) -> usize
-    requires { at + 2 ≤ length out.old }
-    ensures { (result ≤ at + 2) × (take result out.new ≡ take at out.old ++ hex_of (b ∷ [])) }
+#[tactic(auto, unfolding(lines::specs::Hex::hex_of))]
+fn put_byte(printer: &mut Printer, b: u8)
+    requires { Room 2 printer.old }
+    ensures { Puts 2 (hex_of (b ∷ [])) printer.old printer.new }
 {
-    let high = digit_of(b / 16);
-    let low = digit_of(b % 16);
-    let a = put(out, at, high);
-    put(out, a, low)
+    printer.put(digit_of(b / 16));
+    printer.put(digit_of(b % 16));
 }
 
 // A space and the heads of a session, in four digits.
-pub fn put_heads(out: &mut [u8], at: usize, w: u64) -> usize
-    requires { at + 5 ≤ length out.old }
-    ensures { (result ≤ at + 5) × (take result out.new ≡ take at out.old ++ heads_text w) }
+pub fn put_heads(printer: &mut Printer, w: u64)
+    requires { Room 5 printer.old }
+    ensures { Puts 5 (heads_text w) printer.old printer.new }
 {
-    let a = put(out, at, 32);
-    let b = put_byte(out, a, (w / 256 % 256) as u8);
-    put_byte(out, b, (w % 256) as u8)
+    printer.put(32);
+    put_byte(printer, (w / 256 % 256) as u8);
+    put_byte(printer, (w % 256) as u8);
 }
 
-// A space and -1.
-fn put_none(out: &mut [u8], at: usize) -> usize
-    requires { at + 3 ≤ length out.old }
-    ensures { (result ≤ at + 3) × (take result out.new ≡ take at out.old ++ (32 ∷ 45 ∷ 49 ∷ [])) }
-{
-    let a = put(out, at, 32);
-    let b = put(out, a, 45);
-    put(out, b, 49)
-}
-
-// A space and the number of a session.
-fn put_number(out: &mut [u8], at: usize, w: u64) -> usize
-    requires { at + 21 ≤ length out.old }
-    ensures { (result ≤ at + 21) × (take result out.new ≡ take at out.old ++ number_text w) }
+// A space and the number of a session, -1 for none.
+#[tactic(auto, unfolding(crate::specs::Shown::number_text))]
+fn put_number(printer: &mut Printer, w: u64)
+    requires { Room 21 printer.old }
+    ensures { Puts 21 (number_text w) printer.old printer.new }
 {
     if w == 0 {
-        return put_none(out, at);
+        printer.put_text(b" -1");
+    } else {
+        put_field(printer, w / 65536);
     }
-    put_field(out, at, w / 65536)
 }
 
 // Kind, view and sender.
-fn put_head(out: &mut [u8], at: usize, kind: u8, view: u64, sender: u64) -> usize
-    requires { at + 43 ≤ length out.old }
-    ensures { (result ≤ at + 43) × (take result out.new ≡ take at out.old ++ head_text kind view sender) }
+#[tactic(auto, unfolding(crate::specs::Shown::head_text))]
+fn put_head(printer: &mut Printer, kind: u8, view: u64, sender: u64)
+    requires { Room 43 printer.old }
+    ensures { Puts 43 (head_text kind view sender) printer.old printer.new }
 {
-    let a = put(out, at, kind);
-    let b = put_field(out, a, view);
-    put_field(out, b, sender)
+    printer.put(kind);
+    put_field(printer, view);
+    put_field(printer, sender);
 }
 
 // The last primary's heads and number.
-fn put_session(out: &mut [u8], at: usize, w: u64) -> usize
-    requires { at + 26 ≤ length out.old }
-    ensures { (result ≤ at + 26) × (take result out.new ≡ take at out.old ++ session_text w) }
+#[tactic(auto, unfolding(crate::specs::Shown::session_text))]
+fn put_session(printer: &mut Printer, w: u64)
+    requires { Room 26 printer.old }
+    ensures { Puts 26 (session_text w) printer.old printer.new }
 {
-    let a = put_heads(out, at, w);
-    put_number(out, a, w)
+    put_heads(printer, w);
+    put_number(printer, w);
 }
 
 // Session number, last primary, and how many places.
-fn put_values(out: &mut [u8], at: usize, number: u64, primary: u64, count: u64) -> usize
-    requires { at + 68 ≤ length out.old }
-    ensures { (result ≤ at + 68) × (take result out.new ≡ take at out.old ++ values_text number primary count) }
+#[tactic(auto, unfolding(crate::specs::Shown::values_text))]
+fn put_values(printer: &mut Printer, number: u64, primary: u64, count: u64)
+    requires { Room 68 printer.old }
+    ensures { Puts 68 (values_text number primary count) printer.old printer.new }
 {
-    let a = put_field(out, at, number);
-    let b = put_session(out, a, primary);
-    put_field(out, b, count)
+    put_field(printer, number);
+    put_session(printer, primary);
+    put_field(printer, count);
 }
 
-fn print_attempt(out: &mut [u8], at: usize, view: u64, sender: u64) -> usize
-    requires { at + 44 ≤ length out.old }
-    ensures { (result ≤ at + 44) × (take result out.new ≡ take at out.old ++ attempt_text view sender) }
+#[tactic(auto, unfolding(crate::specs::Shown::attempt_text))]
+fn print_attempt(printer: &mut Printer, view: u64, sender: u64)
+    requires { Room 44 printer.old }
+    ensures { Puts 44 (attempt_text view sender) printer.old printer.new }
 {
-    let a = put_head(out, at, 65, view, sender);
-    put(out, a, 10)
+    put_head(printer, 65, view, sender);
+    printer.put(10);
 }
 
-fn print_state(out: &mut [u8], at: usize, view: u64, sender: u64, st: &State) -> usize
-    requires { at + 112 ≤ length out.old }
-    ensures { (result ≤ at + 112) × (take result out.new ≡ take at out.old ++ state_text view sender st.now.number st.now.primary st.now.count) }
+#[tactic(auto, unfolding(crate::specs::Shown::state_text))]
+fn print_state(printer: &mut Printer, view: u64, sender: u64, st: &State)
+    requires { Room 112 printer.old }
+    ensures { Puts 112 (state_text view sender st.now.number st.now.primary st.now.count) printer.old printer.new }
 {
-    let a = put_head(out, at, 83, view, sender);
-    let b = put_values(out, a, st.number as u64, st.primary, st.count as u64);
-    put(out, b, 10)
+    put_head(printer, 83, view, sender);
+    put_values(printer, st.number as u64, st.primary, st.count as u64);
+    printer.put(10);
 }
 
 // What is printed for a line that breaks a rule.
-pub fn print_refused(out: &mut [u8], at: usize) -> usize
-    requires { at + 4 ≤ length out.old }
-    ensures { (result ≤ at + 4) × (take result out.new ≡ take at out.old ++ refused_text) }
+#[tactic(auto, unfolding(crate::specs::Shown::refused_text))]
+pub fn print_refused(printer: &mut Printer)
+    requires { Room 4 printer.old }
+    ensures { Puts 4 refused_text printer.old printer.new }
 {
-    let a = put(out, at, 82);
-    let b = put(out, a, 32);
-    let c = put(out, b, 51);
-    put(out, c, 10)
+    printer.put_text(b"R 3\n");
 }
 
-// Prints the answer at a place, and answers with the next one.
-pub fn print(read: &Result<Frame, Rule>, out: &mut [u8], at: usize) -> usize
-    requires { at + room (read_of read.now).line ≤ length out.old }
-    ensures { (result ≤ at + room (read_of read.now).line) × (take result out.new ≡ take at out.old ++ shown (read_of read.now)) }
+// Prints the answer to a line.
+pub fn print(printer: &mut Printer, read: &Result<Frame, Rule>)
+    requires { Room (room (read_of read.now).line) printer.old }
+    ensures { Puts (room (read_of read.now).line) (shown (read_of read.now)) printer.old printer.new }
 {
     match read {
         Ok(
@@ -131,10 +127,10 @@ pub fn print(read: &Result<Frame, Rule>, out: &mut [u8], at: usize) -> usize
                 sender,
                 state,
             },
-        ) => print_state(out, at, *view as u64, *sender as u64, state),
+        ) => print_state(printer, *view as u64, *sender as u64, state),
         Ok(Frame::Attempt { view, sender }) => {
-            print_attempt(out, at, *view as u64, *sender as u64)
+            print_attempt(printer, *view as u64, *sender as u64);
         }
-        Err(_) => print_refused(out, at),
+        Err(_) => print_refused(printer),
     }
 }

@@ -1,15 +1,17 @@
 // What `frames` prints for lines that come in parts of any size.
 #![tactic(auto)]
 
-ghost use Rattle.std.specs.Prelude.{◌≡◌, ◌++◌, [], ◌+◌, ◌*◌, ◌-◌, ◌≤◌, length, take, drop};
+ghost use Rattle.std.specs.Prelude.{◌≡◌, [], ◌+◌, ◌*◌, ◌-◌, ◌≤◌, length, take, drop};
 ghost use Rattle.lines.specs.Reading.{judged};
 ghost use Rattle.lines.specs.Walk.{whole_lines, begun, last_line};
+ghost use Rattle.text.specs.Printer.{Room, Puts};
 ghost use Rattle.shown.specs.Shown.{shown, printed, room};
 ghost use Rattle.stream.specs.Parts.{Counts};
 
 use hexadecimal::line_end;
 use reader::judge;
 use shown::{print, print_refused};
+use text::Printer;
 
 // What a part of the input came to: bytes printed, and bytes held of the line that it begins.
 #[derive(Clone, Copy)]
@@ -19,11 +21,11 @@ pub struct Fed {
 }
 
 // Prints the answer to a line, given without its newline. This is the one call of the reader, so the compiler need not copy a line's values to print them.
-fn print_line(l: &[u8], out: &mut [u8], at: usize) -> usize
-    requires { at + room (judged l.now).line ≤ length out.old }
-    ensures { (result ≤ at + room (judged l.now).line) × (take result out.new ≡ take at out.old ++ shown (judged l.now)) }
+fn print_line(printer: &mut Printer, l: &[u8])
+    requires { Room (room (judged l.now).line) printer.old }
+    ensures { Puts (room (judged l.now).line) (shown (judged l.now)) printer.old printer.new }
 {
-    print(&judge(l), out, at)
+    print(printer, &judge(l));
 }
 
 // Prints a line for each whole line of s; held are the bytes of s after the last of them.
@@ -33,17 +35,17 @@ fn print_lines(s: &[u8], out: &mut [u8]) -> Fed
     ensures out_after { take result.put out.new ≡ printed (whole_lines [] s.now) }
     ensures s_value { drop (length s.now - result.held) s.now ≡ begun [] s.now }
 {
+    let mut printer = Printer { out, end: 0 };
     let mut rest = s;
-    let mut put = 0;
     let mut end = line_end(rest);
     while end < rest.len() {
-        put = print_line(&rest[..end], out, put);
+        print_line(&mut printer, &rest[..end]);
         let next = end + 1;
         rest = &rest[next..];
         end = line_end(rest);
     }
     Fed {
-        put,
+        put: printer.end,
         held: rest.len(),
     }
 }
@@ -90,9 +92,12 @@ pub fn finish(held: &[u8], out: &mut [u8]) -> usize
     if held.len() == 0 {
         return 0;
     }
+    let mut printer = Printer { out, end: 0 };
     let end = line_end(held);
     if end < held.len() {
-        return print_line(&held[..end], out, 0);
+        print_line(&mut printer, &held[..end]);
+        return printer.end;
     }
-    print_refused(out, 0)
+    print_refused(&mut printer);
+    printer.end
 }

@@ -5,7 +5,10 @@ use Rattle.stream.proofs.Laws.Walk.{Walked}
 use Rattle.stream.proofs.print_lines.Given as goal
 
 abbrev pub invariant-loop-end : goal.invariant-loop-end
-invariant-loop-end l = Walked l.s l.out l.rest l.put l.end × (length l.out ≡ length l.initial.out)
+invariant-loop-end l =
+    Walked l.s l.printer.out.now l.rest l.printer.end l.end
+    × (length l.printer.out.now ≡ length l.initial.printer.out.now)
+    × (l.printer.out.ghost_name ≡ l.initial.printer.out.ghost_name)
 
 abbrev pub decreases-loop-end : goal.decreases-loop-end
 decreases-loop-end l = length l.rest
