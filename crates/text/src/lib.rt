@@ -24,14 +24,6 @@ fn put_digits(digits: &mut [u8], n: u64)
     }
 }
 
-// How many digits n has.
-fn digit_count(n: u64) -> usize
-    ensures digits { result ≡ length (decimal n) }
-    ensures bound { result ≤ 20 }
-{
-    n.checked_ilog10().map_or(1, |power| power as usize + 1)
-}
-
 impl Printer<'_> {
     pub fn put(&mut self, b: u8)
         requires { Room 1 self.old }
@@ -54,7 +46,10 @@ impl Printer<'_> {
         requires { Room 20 self.old }
         ensures { Puts 20 (decimal n) self.old self.new }
     {
-        let end = self.end + digit_count(n);
+        if n < 10 {
+            return self.put(48 + n as u8);
+        }
+        let end = self.end + n.ilog10() as usize + 1;
         put_digits(&mut self.out[self.end..end], n);
         self.end = end;
     }

@@ -3,7 +3,7 @@ use mathlib.Core.Path.{◌≡◌, refl, sym, ap, ◌∙◌}
 use mathlib.Core.Logic.{⊎_elim}
 use mathlib.Core.List.{[], ◌∷◌, ◌++◌, append_assoc}
 use Prim.Native.Nat.{ℕ, zero, suc, ◌+◌, ◌*◌, ◌/◌, ◌%◌, ◌^◌, ◌≤◌, ◌<◌}
-use native.Mathlib.Nat.{pow-succ'}
+use native.Mathlib.Nat.{pow-succ', mod-eq_of_lt}
 use native.Mathlib.Numerals.{add-one, add-two}
 use native.Mathlib.Omega.{arith}
 use lib.ListN.{length, length-append}
@@ -48,9 +48,9 @@ pub decimal-power : (k n : ℕ) → 10 ^ k ≤ n → n < 10 * 10 ^ k → k < 20 
 unfolding decimal
 decimal-power k n h l r = sym (count-power k 19 n h l (omega arith))
 
-pub decimal-zero : 1 ≡ length (decimal 0)
+pub decimal-one : (n : ℕ) → n < 10 → decimal n ≡ (48 + n) ∷ []
 unfolding decimal
-decimal-zero = sym (count-one 19 0 (omega arith))
+decimal-one n h = digits-one 19 n h ∙ rw (mod-eq_of_lt h)
 
 -- ---- the last digits
 
