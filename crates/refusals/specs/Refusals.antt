@@ -1,15 +1,14 @@
 -- The first refusal of each call in document 01's order (the table's; 13 is tested last), 0 for none, over the numbers that it depends on. `fit` says that the
 -- record is whole and the session fits it, which refusal 2 denies. A stage is 0 none, 1 undecided, 2 closed, 3 attempted, 4 formed.
-use Rattle.std.specs.Prelude.{Bool, not, cond, ◌||◌, ℕ, eqb, leb, ltb}
+use Rattle.std.specs.Prelude.{Bool, not, cond, ◌||◌, ℕ, eqb, leb, ltb, Result, Ok, Err, ⊤}
+use Rattle.group.specs.declared.answers.Refusal.{Refusal}
 use Rattle.group.specs.Answers.{refusal_number}
 use Rattle.group.specs.Heads.{has}
-use Rattle.refusals.specs.declared.Check.{Check}
-use Rattle.refusals.specs.declared.Check.TheVariants as check
 
--- the number that a call's check gives: "a definition gives this paper's number .. for each enum case"
-abbrev pub check_number : Check → ℕ
-check_number check.Passed = 0
-check_number (check.Refused why) = refusal_number why
+-- the number that a call's check gives, 0 where it passes: "a definition gives this paper's number .. for each enum case"
+abbrev pub check_number : Result Unit Refusal → ℕ
+check_number (Ok passed) = 0
+check_number (Err why) = refusal_number why
 
 -- enter view with heads m, for own head and the highest view entered: 2, 4 "own head .. not in M", 5 "view at or below word 1"
 abbrev pub enter_refused : Bool → ℕ → ℕ → ℕ → ℕ → ℕ

@@ -1,175 +1,155 @@
 // The first refusal of each call, in document 01's order, over the numbers that it depends on. `fit` says that the record is whole and the session fits it.
 #![tactic(auto)]
 
-ghost use Rattle.std.specs.Prelude.{◌≡◌, true, length};
+ghost use Rattle.std.specs.Prelude.{◌≡◌, ◌||◌, not, cond, eqb};
+ghost use Rattle.group.specs.Heads.{has};
 ghost use Rattle.record.specs.Layout.{own as own_of, entered as entered_of};
 ghost use Rattle.refusals.specs.Refusals.{check_number, enter_refused, state_refused, attempt_refused, decide_refused, form_refused, write_state_refused, write_attempt_refused};
 
 use fitting::stage::{CLOSED, FORMED, NONE, UNDECIDED};
 use group::Refusal;
 use group::heads::holds;
-use record::layout::{entered, own};
+use record::layout::{Record, entered, own};
 use writer::{ATTEMPT_ROOM, STATE_ROOM};
 
-// Whether a call may go on.
-#[derive(Clone, Copy)]
-pub enum Check {
-    Passed,
-    Refused(Refusal),
-}
-
-pub fn enter_check(fit: bool, rec: &[u64], view: u32, heads: u16) -> Check
-    requires { fit ≡ true → length rec.now ≡ 52 }
+pub fn enter_check(fit: bool, rec: &Record, view: u32, heads: u16) -> Result<(), Refusal>
     ensures { check_number result ≡ enter_refused fit (own_of rec.now) (entered_of rec.now) view heads }
 {
     if !fit {
-        return Check::Refused(Refusal::Record);
+        return Err(Refusal::Record);
     }
     if !holds(heads, own(rec) as u8) {
-        return Check::Refused(Refusal::Stranger);
+        return Err(Refusal::Stranger);
     }
-    if view as u64 <= entered(rec) {
-        return Check::Refused(Refusal::OldView);
+    if u64::from(view) <= entered(rec) {
+        return Err(Refusal::OldView);
     }
-    Check::Passed
+    Ok(())
 }
 
-pub fn decide_check(fit: bool, stage: u8, members: u16, states: u16) -> Check
+// The session fits the record, and is not none.
+fn session_check(fit: bool, stage: u8) -> Result<(), Refusal>
+    ensures { check_number result ≡ cond (not fit) 2 (cond (eqb stage 0) 6 0) }
+{
+    if !fit {
+        return Err(Refusal::Record);
+    }
+    if stage == NONE {
+        return Err(Refusal::NoSession);
+    }
+    Ok(())
+}
+
+pub fn decide_check(fit: bool, stage: u8, members: u16, states: u16) -> Result<(), Refusal>
     ensures { check_number result ≡ decide_refused fit stage members states }
 {
-    if !fit {
-        return Check::Refused(Refusal::Record);
-    }
-    if stage == NONE {
-        return Check::Refused(Refusal::NoSession);
-    }
+    session_check(fit, stage)?;
     if stage != UNDECIDED {
-        return Check::Refused(Refusal::Decided);
+        return Err(Refusal::Decided);
     }
     if states != members {
-        return Check::Refused(Refusal::Missing);
+        return Err(Refusal::Missing);
     }
-    Check::Passed
+    Ok(())
 }
 
-pub fn form_check(fit: bool, stage: u8, members: u16, attempts: u16) -> Check
+pub fn form_check(fit: bool, stage: u8, members: u16, attempts: u16) -> Result<(), Refusal>
     ensures { check_number result ≡ form_refused fit stage members attempts }
 {
-    if !fit {
-        return Check::Refused(Refusal::Record);
+    session_check(fit, stage)?;
+    match stage {
+        CLOSED => Err(Refusal::Closed),
+        FORMED => Err(Refusal::Decided),
+        UNDECIDED => Err(Refusal::Undecided),
+        _ if attempts != members => Err(Refusal::Missing),
+        _ => Ok(()),
     }
-    if stage == NONE {
-        return Check::Refused(Refusal::NoSession);
-    }
-    if stage == CLOSED {
-        return Check::Refused(Refusal::Closed);
-    }
-    if stage == FORMED {
-        return Check::Refused(Refusal::Decided);
-    }
-    if stage == UNDECIDED {
-        return Check::Refused(Refusal::Undecided);
-    }
-    if attempts != members {
-        return Check::Refused(Refusal::Missing);
-    }
-    Check::Passed
 }
 
-// A state line of this view and sender, for own head in the session of view `opened`.
-pub fn state_check(
-    stage: u8,
-    opened: u32,
-    members: u16,
-    states: u16,
-    own: usize,
-    view: u32,
-    sender: u8,
-) -> Check
-    ensures { check_number result ≡ state_refused stage opened members states own view sender }
-{
-    if stage == NONE {
-        return Check::Refused(Refusal::NoSession);
-    }
-    if view != opened {
-        return Check::Refused(Refusal::OtherView);
-    }
-    if !holds(members, sender) {
-        return Check::Refused(Refusal::Stranger);
-    }
-    if holds(states, sender) | (sender as usize == own) {
-        return Check::Refused(Refusal::Heard);
-    }
-    Check::Passed
+// A session that a line is heard in: `heard` are the members whose lines of its kind were heard.
+#[derive(Clone, Copy)]
+pub struct Listener {
+    pub stage: u8,
+    pub view: u32,
+    pub members: u16,
+    pub heard: u16,
+    pub own: usize,
 }
 
-// An attempt line of this view and sender, for own head in the session of view `opened`.
-pub fn attempt_check(
-    stage: u8,
-    opened: u32,
-    members: u16,
-    attempts: u16,
-    own: usize,
-    view: u32,
-    sender: u8,
-) -> Check
-    ensures { check_number result ≡ attempt_refused stage opened members attempts own view sender }
-{
-    if stage == NONE {
-        return Check::Refused(Refusal::NoSession);
+impl Listener {
+    // There is a session, and the line is of its view and from a member.
+    fn member_check(self, view: u32, sender: u8) -> Result<(), Refusal>
+        ensures { check_number result ≡ cond (eqb self.stage 0) 6 (cond (not (eqb view self.view)) 7 (cond (not (has self.members sender)) 4 0)) }
+    {
+        if self.stage == NONE {
+            return Err(Refusal::NoSession);
+        }
+        if view != self.view {
+            return Err(Refusal::OtherView);
+        }
+        if !holds(self.members, sender) {
+            return Err(Refusal::Stranger);
+        }
+        Ok(())
     }
-    if view != opened {
-        return Check::Refused(Refusal::OtherView);
+
+    // The sender was not heard, and is not own head.
+    fn unheard_check(self, sender: u8) -> Result<(), Refusal>
+        ensures { check_number result ≡ cond (has self.heard sender || eqb sender self.own) 8 0 }
+    {
+        if holds(self.heard, sender) || usize::from(sender) == self.own {
+            return Err(Refusal::Heard);
+        }
+        Ok(())
     }
-    if !holds(members, sender) {
-        return Check::Refused(Refusal::Stranger);
+
+    // A state line of this view and sender.
+    pub fn state_check(self, view: u32, sender: u8) -> Result<(), Refusal>
+        ensures { check_number result ≡ state_refused self.stage self.view self.members self.heard self.own view sender }
+    {
+        self.member_check(view, sender)?;
+        self.unheard_check(sender)
     }
-    if stage == CLOSED {
-        return Check::Refused(Refusal::Closed);
+
+    // An attempt line of this view and sender.
+    pub fn attempt_check(self, view: u32, sender: u8) -> Result<(), Refusal>
+        ensures { check_number result ≡ attempt_refused self.stage self.view self.members self.heard self.own view sender }
+    {
+        self.member_check(view, sender)?;
+        if self.stage == CLOSED {
+            return Err(Refusal::Closed);
+        }
+        self.unheard_check(sender)
     }
-    if holds(attempts, sender) | (sender as usize == own) {
-        return Check::Refused(Refusal::Heard);
-    }
-    Check::Passed
 }
 
 // A state line to be written into so many characters.
-pub fn write_state_check(fit: bool, stage: u8, room: usize) -> Check
+pub fn write_state_check(fit: bool, stage: u8, room: usize) -> Result<(), Refusal>
     ensures { check_number result ≡ write_state_refused fit stage room }
 {
-    if !fit {
-        return Check::Refused(Refusal::Record);
-    }
-    if stage == NONE {
-        return Check::Refused(Refusal::NoSession);
-    }
+    session_check(fit, stage)?;
     if stage != UNDECIDED {
-        return Check::Refused(Refusal::Decided);
+        return Err(Refusal::Decided);
     }
     if room < STATE_ROOM {
-        return Check::Refused(Refusal::Short);
+        return Err(Refusal::Short);
     }
-    Check::Passed
+    Ok(())
 }
 
 // An attempt line to be written into so many characters.
-pub fn write_attempt_check(fit: bool, stage: u8, room: usize) -> Check
+pub fn write_attempt_check(fit: bool, stage: u8, room: usize) -> Result<(), Refusal>
     ensures { check_number result ≡ write_attempt_refused fit stage room }
 {
-    if !fit {
-        return Check::Refused(Refusal::Record);
-    }
-    if stage == NONE {
-        return Check::Refused(Refusal::NoSession);
-    }
+    session_check(fit, stage)?;
     if stage == CLOSED {
-        return Check::Refused(Refusal::Closed);
+        return Err(Refusal::Closed);
     }
     if stage <= UNDECIDED {
-        return Check::Refused(Refusal::Undecided);
+        return Err(Refusal::Undecided);
     }
     if room < ATTEMPT_ROOM {
-        return Check::Refused(Refusal::Short);
+        return Err(Refusal::Short);
     }
-    Check::Passed
+    Ok(())
 }
