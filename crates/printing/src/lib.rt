@@ -1,134 +1,102 @@
 // What the bench prints: for each event its answer, and at the end the formed sessions.
 #![tactic(auto)]
 
-ghost use Rattle.std.specs.Prelude.{◌≡◌, ◌++◌, ◌+◌, ◌*◌, ◌≤◌, ◌<◌, length, take, drop};
+ghost use Rattle.std.specs.Prelude.{◌≡◌, ◌*◌, ◌≤◌, length, Ok};
 ghost use Rattle.group.specs.Answers.{said};
-ghost use Rattle.lines.specs.Hex.{line_end};
-ghost use Rattle.lines.specs.Walk.{first_of};
+ghost use Rattle.text.specs.Printer.{Room, Puts};
 ghost use Rattle.deeds.specs.Told.{told};
-ghost use Rattle.printing.specs.Texts.{refused_text, said_text, told_text, word_at, session_line, closing, last_text};
+ghost use Rattle.printing.specs.Texts.{refused_text, said_text, told_text, session_line, closing, last_text};
 
-use codes::refusal_code;
 use deeds::Reply;
-use group::Answer;
-use hexadecimal::line_end;
+use group::{Answer, Refusal};
 use shown::{put_field, put_heads};
-use text::put;
-
-// A text at a place, and the next place.
-fn put_text(out: &mut [u8], at: usize, text: &[u8]) -> usize
-    requires { at + length text.now ≤ length out.old }
-    ensures { (result ≡ at + length text.now) × (take result out.new ≡ take at out.old ++ text.now) }
-{
-    let mut i = 0;
-    while i < text.len() {
-        out[at + i] = text[i];
-        i += 1;
-    }
-    at + i
-}
+use text::Printer;
 
 // `R n`
-fn put_refused(out: &mut [u8], at: usize, n: u8) -> usize
-    requires { at + 24 ≤ length out.old }
-    ensures { (result ≤ at + 24) × (take result out.new ≡ take at out.old ++ refused_text n) }
+#[tactic(auto, unfolding(crate::specs::Texts::refused_text))]
+fn put_refused(printer: &mut Printer, n: u8)
+    requires { Room 24 printer.old }
+    ensures { Puts 24 (refused_text n) printer.old printer.new }
 {
-    let a = put(out, at, 82);
-    let b = put_field(out, a, n as u64);
-    put(out, b, 10)
+    printer.put(82);
+    put_field(printer, n as u64);
+    printer.put(10);
 }
 
-// Where an answer's word begins in the words of all answers; a refusal has none.
-fn word_at(answer: Answer) -> usize
-    ensures { result ≡ word_at (said answer) }
+// The word of an answer, with its newline.
+fn word(answer: Answer) -> &'static [u8]
+    ensures text { result.now ≡ said_text (said (Ok answer)) }
+    ensures bound { length result.now ≤ 24 }
 {
     match answer {
-        Answer::Started => 0,
-        Answer::Recovered => 8,
-        Answer::Entered => 18,
-        Answer::Heard => 26,
-        Answer::Attempted => 32,
-        Answer::NoQuorum => 42,
-        Answer::NumbersRunOut => 52,
-        Answer::NoPlace => 68,
-        Answer::Formed => 77,
-        Answer::Written(n) => 84,
-        Answer::Cut => 92,
-        Answer::Refused(why) => 0,
+        Answer::Started => b"started\n",
+        Answer::Recovered => b"recovered\n",
+        Answer::Entered => b"entered\n",
+        Answer::Heard => b"heard\n",
+        Answer::Attempted => b"attempted\n",
+        Answer::NoQuorum => b"no quorum\n",
+        Answer::NumbersRunOut => b"numbers run out\n",
+        Answer::NoPlace => b"no place\n",
+        Answer::Formed => b"formed\n",
+        Answer::Written(_) => b"written\n",
+        Answer::Cut => b"cut\n",
     }
 }
 
-// The word that begins at k, with its newline.
-fn put_word(out: &mut [u8], at: usize, words: &[u8], k: usize) -> usize
-    requires { (line_end (drop k words.now) < length (drop k words.now)) × (at + length (first_of (drop k words.now)) ≤ length out.old) }
-    ensures { (result ≡ at + length (first_of (drop k words.now))) × (take result out.new ≡ take at out.old ++ first_of (drop k words.now)) }
-{
-    let rest = &words[k..];
-    let e = line_end(rest) + 1;
-    put_text(out, at, &rest[..e])
-}
-
-fn put_answer(out: &mut [u8], at: usize, answer: Answer) -> usize
-    requires { at + 24 ≤ length out.old }
-    ensures { (result ≤ at + 24) × (take result out.new ≡ take at out.old ++ said_text (said answer)) }
+fn put_answer(printer: &mut Printer, answer: Result<Answer, Refusal>)
+    requires { Room 24 printer.old }
+    ensures { Puts 24 (said_text (said answer)) printer.old printer.new }
 {
     match answer {
-        Answer::Refused(why) => put_refused(out, at, refusal_code(why)),
-        _ => {
-            let words =
-                b"started\nrecovered\nentered\nheard\nattempted\nno quorum\nnumbers run out\nno place\nformed\nwritten\ncut\n";
-            put_word(out, at, words, word_at(answer))
-        }
+        Ok(answer) => printer.put_text(word(answer)),
+        Err(refusal) => put_refused(printer, u8::from(refusal)),
     }
 }
 
-pub fn put_reply(out: &mut [u8], at: usize, reply: Reply) -> usize
-    requires { at + 24 ≤ length out.old }
-    ensures { (result ≤ at + 24) × (take result out.new ≡ take at out.old ++ told_text (told reply)) }
+pub fn put_reply(printer: &mut Printer, reply: Reply)
+    requires { Room 24 printer.old }
+    ensures { Puts 24 (told_text (told reply)) printer.old printer.new }
 {
     match reply {
-        Reply::Refused(n) => put_refused(out, at, n),
-        Reply::Announced => put_text(out, at, b"announced\n"),
-        Reply::Armed => put_text(out, at, b"armed\n"),
-        Reply::Head(answer) => put_answer(out, at, answer),
+        Reply::Refused(n) => put_refused(printer, n),
+        Reply::Announced => printer.put_text(b"announced\n"),
+        Reply::Armed => printer.put_text(b"armed\n"),
+        Reply::Head(answer) => put_answer(printer, answer),
     }
 }
 
 // `F HHHH number SSSS`
-fn put_session(out: &mut [u8], at: usize, before: u64, w: u64) -> usize
-    requires { at + 33 ≤ length out.old }
-    ensures { (result ≤ at + 33) × (take result out.new ≡ take at out.old ++ session_line before w) }
+#[tactic(auto, unfolding(crate::specs::Texts::session_line, group::specs::Heads::common))]
+fn put_session(printer: &mut Printer, before: u64, w: u64)
+    requires { Room 33 printer.old }
+    ensures { Puts 33 (session_line before w) printer.old printer.new }
 {
-    let a = put(out, at, 70);
-    let b = put_heads(out, a, w);
-    let c = put_field(out, b, w / 65536);
-    let d = put_heads(out, c, (w % 65536) & (before % 65536));
-    put(out, d, 10)
+    printer.put(70);
+    put_heads(printer, w);
+    put_field(printer, w / 65536);
+    put_heads(printer, (w % 65536) & (before % 65536));
+    printer.put(10);
 }
 
-// A line for each of the first n formed sessions.
-pub fn put_sessions(formed: &[u64], n: usize, out: &mut [u8], at: usize) -> usize
-    requires { (n ≤ length formed.now) × (at + 33 * n ≤ length out.old) }
-    ensures { (result ≤ at + 33 * n) × (take result out.new ≡ take at out.old ++ closing (take n formed.now)) }
+// A line for each formed session.
+pub fn put_sessions(printer: &mut Printer, formed: &[u64])
+    requires { Room (33 * length formed.now) printer.old }
+    ensures { Puts (33 * length formed.now) (closing formed.now) printer.old printer.new }
 {
-    let mut end = at;
     let mut before = 0;
-    let mut i = 0;
-    while i < n {
-        end = put_session(out, end, before, formed[i]);
-        before = formed[i];
-        i += 1;
+    for w in formed {
+        put_session(printer, before, *w);
+        before = *w;
     }
-    end
 }
 
 // Bytes of a line that was begun are no event.
-pub fn put_last(out: &mut [u8], stop: usize, end: usize) -> usize
-    requires { 4 ≤ length out.old }
-    ensures { (result ≤ 4) × (take result out.new ≡ last_text stop end) }
+#[tactic(auto, using(crate::proofs::Laws::refused_three), unfolding(crate::specs::Texts::last_text))]
+pub fn put_last(printer: &mut Printer, stop: usize, end: usize)
+    requires { Room 4 printer.old }
+    ensures { Puts 4 (last_text stop end) printer.old printer.new }
 {
     if stop < end {
-        return put_text(out, 0, b"R 3\n");
+        printer.put_text(b"R 3\n");
     }
-    0
 }

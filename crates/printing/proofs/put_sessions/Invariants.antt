@@ -1,14 +1,12 @@
--- The lines of the first i sessions stand at the place, and the session before is kept.
-use mathlib.Core.Path.{◌≡◌}
-use mathlib.Core.List.{◌++◌}
-use Prim.Native.Nat.{◌+◌, ◌*◌, ◌≤◌, ◌-◌}
-use lib.ListN.{length, take}
-use Rattle.printing.specs.Texts.{closing}
-use Rattle.printing.proofs.Laws.{before_of}
+-- At each session what was put, and the lines of those that are left, are the lines of all.
+use Rattle.std.proofs.Common.{◌≡◌, ◌++◌, ◌+◌, ◌*◌, ◌≤◌, length, drop}
+use Rattle.text.specs.Printer.{written}
+use Rattle.printing.specs.Texts.{session_lines}
 use Rattle.printing.proofs.put_sessions.Given as goal
 
-abbrev pub invariant-loop-i : goal.invariant-loop-i
-invariant-loop-i l = (l.i ≤ l.n) × (length l.out ≡ length l.initial.out) × (l.end ≤ l.at + 33 * l.i) × (l.before ≡ before_of 0 l.i l.formed) × (take l.end l.out ≡ take l.at l.initial.out ++ closing (take l.i l.formed))
-
-abbrev pub decreases-loop-i : goal.decreases-loop-i
-decreases-loop-i l = l.n - l.i
+abbrev pub invariant-loop-w : goal.invariant-loop-w
+invariant-loop-w l =
+    (l.printer.out.ghost_name ≡ l.initial.printer.out.ghost_name)
+    × (length l.printer.out.now ≡ length l.initial.printer.out.now)
+    × (l.printer.end ≤ l.initial.printer.end + 33 * l.w-index)
+    × (written l.printer ++ session_lines l.before (drop l.w-index l.formed) ≡ written l.initial.printer ++ session_lines 0 l.formed)
