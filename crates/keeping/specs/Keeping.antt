@@ -1,5 +1,5 @@
 -- What a head of the bench keeps for later events: "its last four sent lines", and the cut that waits for its next call.
-use Rattle.std.specs.Prelude.{Bool, cond, ◌&&◌, List, [], ◌∷◌, ℕ, ltb, leb, take, replicate, get_or}
+use Rattle.std.specs.Prelude.{Bool, cond, ◌&&◌, List, [], ◌∷◌, ℕ, Option, Some, None, ltb, leb, take, replicate, get_or}
 use Rattle.group.specs.Answers.{Said, started, recovered, entered, heard, attempted, no-quorum, numbers-run-out, no_place, formed, cut, written, refused}
 use Rattle.keeping.specs.declared.Kept.{Kept}
 
@@ -11,8 +11,9 @@ unfoldable pub no_line : Kept
 no_line = record { len = 0; bytes = blank }
 
 -- "17 cut (head 1, k 2: that head's next call of the four that store .. may make k stores": without one, as many as the number's width holds
-unfoldable pub stores_for : Bool → ℕ → ℕ
-stores_for armed stores = cond armed stores 18446744073709551615
+unfoldable pub stores_for : Option ℕ → ℕ
+stores_for (Some stores) = stores
+stores_for None = 18446744073709551615
 
 -- how many characters a call wrote
 abbrev pub chars : Said → ℕ
