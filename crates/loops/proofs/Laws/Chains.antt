@@ -1,7 +1,7 @@
 -- What a chain of iterators makes of a list is the recursion over its indexes. By induction on how many elements are taken: each takes one more.
 -- `q i` is what is asked or made of the element at index i, so that one law serves a list, a list of indexes and a list with its indexes.
 use mathlib.Core.Path.{◌≡◌, refl, sym, ap, ◌∙◌, subst}
-use mathlib.Core.Bool.{Bool}
+use mathlib.Core.Bool.{Bool, true, false, ◌&&◌, ◌||◌}
 use mathlib.Core.List.{List, [], ◌∷◌, map}
 use mathlib.Core.Logic.{⊎_elim}
 use Prim.Native.Nat.{ℕ, zero, suc, ◌+◌, ◌≤◌, ◌<◌, zero-le}
@@ -11,16 +11,20 @@ use native.Mathlib.Omega.{arith}
 use denote.Param.Members.{Mut, Called}
 use lib.ListN.{length, get_or, take}
 use lib.Seq.{take-length}
-use Rattle.std.specs.List.{list_all, list_any, count_by, fold, range_with_len, enumerate_from}
+use lib.Dec.{leb, ltb}
+use borrow.Author.Tests.{lt-ltb, le-ltb, lt-leb, le-leb}
+use Rattle.std.specs.List.{list_all, list_any, count_by, position_or_len, fold, range_with_len, enumerate_from}
 use Rattle.std.specs.Array.{IsFromFnResult, IsFromFnResultFrom}
-use Rattle.std.proofs.lemmas.List.{take_more}
+use Rattle.std.proofs.lemmas.List.{take_more, length-take, get_or-take}
 use Rattle.std.proofs.lemmas.List.Folds.{list_all_more, list_any_more}
-use Rattle.std.proofs.lemmas.List.Sums.{fold-append, count_by_more_yes, count_by_more_no}
+use Rattle.std.proofs.lemmas.List.Sums.{fold-append, count_by_more_yes, count_by_more_no, position_or_len_is}
 use Rattle.std.proofs.lemmas.List.FromFn.{length-range_with_len, get_or-range_with_len, length-enumerate_from, get_or-enumerate_from, length-map-range_with_len, get_or-map-range_with_len}
-use Rattle.loops.specs.Below.{fold_below, all_below, any_below, count_below, table, bit}
-use Rattle.loops.proofs.Laws.Truth.{passes-or-fails}
+use Rattle.loops.specs.Below.{fold_below, all_below, any_below, count_below, first_below, table, bit}
+use Rattle.loops.proofs.Laws.Truth.{passes-or-fails, test-ext, not-both, or_left}
+use Rattle.loops.proofs.Laws.Order.{lt-or-ge}
 use Rattle.loops.proofs.Laws.Fold.{fold-none, fold_next}
-use Rattle.loops.proofs.Laws.Tests.{all_none, all-next, any_none, any_next}
+use Rattle.loops.proofs.Laws.Tests.{all_none, all-next, all-at, all_of, any_none, any_next, any-find, any_of}
+use Rattle.loops.proofs.Laws.First.{first-le, first-before, first_passes}
 use Rattle.loops.proofs.Laws.Lists.{table_is}
 
 -- ---- a fold
@@ -83,6 +87,46 @@ count-front p q xs d (suc n) h e =
 pub count-chain : {A : Type 0} (p : A → Bool) (q : ℕ → Bool) (xs : List A) (d : A) (n : ℕ)
     → length xs ≡ n → ((i : ℕ) → i < n → p (get_or xs i d) ≡ q i) → count_by p xs ≡ count_below n q
 count-chain p q xs d n h e = ap (count_by p) (sym (take-length xs) ∙ ap (λ k. take k xs) h) ∙ count-front p q xs d n (omega arith) e
+
+-- ---- a chain over the first `count` elements, where there may be fewer
+
+pub any-short : (q r : ℕ → Bool) (k n : ℕ) → k ≤ n → ((i : ℕ) → i < k → q i ≡ r i) → ((i : ℕ) → k ≤ i → i < n → r i ≡ false) → any_below k q ≡ any_below n r
+any-short q r k n h e f =
+    test-ext _ _
+    (λ t. let at = any-find k q t in any_of n r at.0 (omega (arith, at.1)) (sym (e at.0 at.1) ∙ at.2))
+    (λ t. let at = any-find n r t in
+    ⊎_elim (λ (l : at.0 < k). any_of k q at.0 l (e at.0 l ∙ at.2)) (λ (g : k ≤ at.0). absurd (not-both _ at.2 (f at.0 g at.1))) (lt-or-ge at.0 k))
+
+pub all-short : (q r : ℕ → Bool) (k n : ℕ) → k ≤ n → ((i : ℕ) → i < k → q i ≡ r i) → ((i : ℕ) → k ≤ i → i < n → r i ≡ true) → all_below k q ≡ all_below n r
+all-short q r k n h e f =
+    test-ext _ _
+    (λ t. all_of n r (λ i b. ⊎_elim (λ (l : i < k). sym (e i l) ∙ all-at k q t i l) (λ (g : k ≤ i). f i g b) (lt-or-ge i k)))
+    (λ t. all_of k q (λ i l. e i l ∙ all-at n r t i (omega arith)))
+
+pub any-taken : {A : Type 0} (p : A → Bool) (count : ℕ) (xs : List A) (d : A) (n : ℕ)
+    → length xs ≡ n → list_any p (take count xs) ≡ any_below n (λ i. ltb i count && p (get_or xs i d))
+any-taken p count xs d n h =
+    any-chain p (λ i. p (get_or (take count xs) i d)) (take count xs) d _ refl (λ i k. refl)
+    ∙ any-short _ _ (length (take count xs)) n (omega (arith, length-take count xs))
+    (λ i k. let l : i < count = omega (arith, length-take count xs) in rw (get_or-take count xs i d l, lt-ltb i count l))
+    (λ i g k. rw (le-ltb i count (omega (arith, length-take count xs))))
+
+pub all-taken : {A : Type 0} (p : A → Bool) (count : ℕ) (xs : List A) (d : A) (n : ℕ)
+    → length xs ≡ n → list_all p (take count xs) ≡ all_below n (λ i. leb count i || p (get_or xs i d))
+all-taken p count xs d n h =
+    all-chain p (λ i. p (get_or (take count xs) i d)) (take count xs) d _ refl (λ i k. refl)
+    ∙ all-short _ _ (length (take count xs)) n (omega (arith, length-take count xs))
+    (λ i k. let l : i < count = omega (arith, length-take count xs) in rw (get_or-take count xs i d l, lt-leb count i l))
+    (λ i g k. or_left _ _ (le-leb count i (omega (arith, length-take count xs))))
+
+-- ---- the first that passes
+
+pub first-chain : {A : Type 0} (p : A → Bool) (q : ℕ → Bool) (xs : List A) (d : A) (n : ℕ)
+    → length xs ≡ n → ((i : ℕ) → i < n → p (get_or xs i d) ≡ q i) → position_or_len p xs ≡ first_below n q
+first-chain p q xs d n h e =
+    position_or_len_is p xs (first_below n q) d (omega (arith, first-le n q))
+    (λ k l. e k (omega (arith, first-le n q)) ∙ first-before n q k l)
+    (λ l. e (first_below n q) (omega arith) ∙ first_passes n q (omega arith))
 
 -- ---- an index of a list of indexes, and an element with its index
 
