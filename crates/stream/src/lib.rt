@@ -55,11 +55,7 @@ pub fn keep(buf: &mut [u8], from: usize, n: usize)
     requires { from + n ≤ length buf.old }
     ensures { take n buf.new ≡ take n (drop from buf.old) }
 {
-    let mut i = 0;
-    while i < n {
-        buf[i] = buf[from + i];
-        i += 1;
-    }
+    buf.copy_within(from..from + n, 0);
 }
 
 // One part of the input: the first n bytes of buf are what was held and what was read. Prints its whole lines, and holds at the start of buf the bytes of the
