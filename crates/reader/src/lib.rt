@@ -3,8 +3,8 @@
 
 mod field;
 
-ghost use Rattle.std.specs.Prelude.{◌≡◌, true, ◌+◌, ◌*◌, ◌≤◌, length};
-ghost use Rattle.lines.specs.Hex.{unhex};
+ghost use Rattle.std.specs.Prelude.{◌≡◌, true, ◌+◌, ◌*◌, ◌≤◌, ◌<◌, length, MatchOption};
+ghost use Rattle.lines.specs.Hex.{unhex, line_end, line_of, rest_of};
 ghost use Rattle.lines.specs.Reading.{rule1, rule3, kind_of, count_of, state_of, judged, read_line, read_whole, read_of};
 
 use crate::field::{four_at, six_at, words_at};
@@ -123,15 +123,25 @@ pub fn judge(l: &[u8]) -> Result<Frame, Rule>
     judge_frame(l, &frame[..n])
 }
 
+// The first line without its newline, and what comes after it; none if there is no newline.
+pub fn split_line(s: &[u8]) -> Option<(&[u8], &[u8])>
+    ensures { MatchOption result (length s.now ≤ line_end s.now) (λ p. (line_end s.now < length s.now) × (p.0.now ≡ line_of s.now) × (p.1.now ≡ rest_of s.now)) }
+{
+    let end = line_end(s);
+    if end < s.len() {
+        Some((&s[..end], &s[end + 1..]))
+    } else {
+        None
+    }
+}
+
 // Judges the first line of the lent bytes.
 pub fn read_line(s: &[u8]) -> Result<Frame, Rule>
     ensures { read_of result ≡ read_line s.now }
 {
-    let e = line_end(s);
-    if e < s.len() {
-        judge(&s[..e])
-    } else {
-        Err(Rule::Digits)
+    match split_line(s) {
+        Some((line, _)) => judge(line),
+        None => Err(Rule::Digits),
     }
 }
 
@@ -139,12 +149,8 @@ pub fn read_line(s: &[u8]) -> Result<Frame, Rule>
 pub fn read_whole(s: &[u8]) -> Result<Frame, Rule>
     ensures { read_of result ≡ read_whole s.now }
 {
-    let e = line_end(s);
-    if s.len() <= e {
-        return Err(Rule::Digits);
+    match split_line(s) {
+        Some((line, rest)) if rest.is_empty() => judge(line),
+        _ => Err(Rule::Digits),
     }
-    if e + 1 != s.len() {
-        return Err(Rule::Digits);
-    }
-    judge(&s[..e])
 }

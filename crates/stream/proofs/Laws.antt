@@ -1,5 +1,4 @@
 -- The laws, one file a subject.
-pub mod Keep
 pub mod Shown
 pub mod Walk
 pub mod Parts

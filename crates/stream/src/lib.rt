@@ -8,9 +8,8 @@ ghost use Rattle.text.specs.Printer.{Room, Puts};
 ghost use Rattle.shown.specs.Shown.{shown, printed, room};
 ghost use Rattle.stream.specs.Parts.{Counts};
 
-use hexadecimal::line_end;
-use reader::judge;
-use shown::{print, print_refused};
+use reader::{judge, read_line, split_line};
+use shown::print;
 use text::Printer;
 
 // What a part of the input came to: bytes printed, and bytes held of the line that it begins.
@@ -37,12 +36,9 @@ fn print_lines(s: &[u8], out: &mut [u8]) -> Fed
 {
     let mut printer = Printer { out, end: 0 };
     let mut rest = s;
-    let mut end = line_end(rest);
-    while end < rest.len() {
-        print_line(&mut printer, &rest[..end]);
-        let next = end + 1;
-        rest = &rest[next..];
-        end = line_end(rest);
+    while let Some((line, after)) = split_line(rest) {
+        print_line(&mut printer, line);
+        rest = after;
     }
     Fed {
         put: printer.end,
@@ -67,16 +63,9 @@ pub fn feed(buf: &mut [u8], n: usize, out: &mut [u8]) -> Fed
     ensures buf_after { take result.held buf.new ≡ take 420 (begun [] (take n buf.old)) }
 {
     let fed = print_lines(&buf[..n], out);
-    let put = fed.put;
-    let left = fed.held;
-    let from = n - left;
-    if left < 420 {
-        keep(buf, from, left);
-        Fed { put, held: left }
-    } else {
-        keep(buf, from, 420);
-        Fed { put, held: 420 }
-    }
+    let held = fed.held.min(420);
+    keep(buf, n - fed.held, held);
+    Fed { put: fed.put, held }
 }
 
 // The end of the input: bytes that are held are a last line.
@@ -85,15 +74,10 @@ pub fn finish(held: &[u8], out: &mut [u8]) -> usize
     ensures counts { Counts result out.new }
     ensures out_after { take result out.new ≡ printed (last_line held.now) }
 {
-    if held.len() == 0 {
+    if held.is_empty() {
         return 0;
     }
     let mut printer = Printer { out, end: 0 };
-    let end = line_end(held);
-    if end < held.len() {
-        print_line(&mut printer, &held[..end]);
-        return printer.end;
-    }
-    print_refused(&mut printer);
+    print(&mut printer, &read_line(held));
     printer.end
 }

@@ -1,19 +1,13 @@
--- Held bytes are one line, none if there are none, and without a newline they break rule 1.
-use mathlib.Core.Path.{◌∙◌}
-use Rattle.std.proofs.Common.{rules}
-use native.Mathlib.Omega.{arith}
-use Rattle.stream.proofs.Laws.Walk.{last_none, last-first, last-refused}
+-- Held bytes are one line, none if there are none.
+use Rattle.std.proofs.Common.{sym, ap, ◌∙◌, rules}
+use borrow.Author.Tests.{eqb-true, eqb-false}
+use Rattle.shown.specs.Shown.{shown}
+use Rattle.stream.proofs.Laws.Walk.{last_none, last_some}
 use Rattle.stream.proofs.finish.Goals as goal
 
-pub returns-then-held-eq0-clause-out_after : goal.returns-then-held-eq0-clause-out_after
-returns-then-held-eq0-clause-out_after c = last_none _ c.if-held-eq0.true
-
-pub returns-then-end-held-clause-out_after : goal.returns-then-end-held-clause-out_after
-returns-then-end-held-clause-out_after c =
-    let e = c.line_end-end in
-    let d = c.print_line.ensures.then ∙ last-first c.args.held.now e.result c.if-held-eq0.false e.ensures (omega arith) in search (rules, d)
+pub returns-then-is_empty-clause-out_after : goal.returns-then-is_empty-clause-out_after
+returns-then-is_empty-clause-out_after c = last_none _ (eqb-true _ 0 (sym c.if-is_empty.ensures))
 
 pub returns-clause-out_after : goal.returns-clause-out_after
 returns-clause-out_after c =
-    let e = c.line_end-end in
-    let d = c.print_refused.ensures.then ∙ last-refused c.args.held.now e.result c.if-held-eq0.false e.ensures (omega arith) in grind (arith, d)
+    let d = c.print.ensures.then ∙ ap shown c.read_line.ensures ∙ last_some c.args.held.now (eqb-false _ 0 (sym c.if-is_empty.ensures)) in search (rules, d)

@@ -4,11 +4,11 @@ use lib.ListN.{length}
 use Rattle.stream.proofs.Laws.Walk.{Walked}
 use Rattle.stream.proofs.print_lines.Given as goal
 
-abbrev pub invariant-loop-end : goal.invariant-loop-end
-invariant-loop-end l =
-    Walked l.s l.printer.out.now l.rest l.printer.end l.end
+abbrev pub invariant-loop-line : goal.invariant-loop-line
+invariant-loop-line l =
+    Walked l.s l.printer.out.now l.rest l.printer.end
     × (length l.printer.out.now ≡ length l.initial.printer.out.now)
     × (l.printer.out.ghost_name ≡ l.initial.printer.out.ghost_name)
 
-abbrev pub decreases-loop-end : goal.decreases-loop-end
-decreases-loop-end l = length l.rest
+abbrev pub decreases-loop-line : goal.decreases-loop-line
+decreases-loop-line l = length l.rest
