@@ -1,21 +1,23 @@
 // Whether a record is whole: the tests of document 01, sentence by sentence.
 #![tactic(auto)]
 
-ghost use Rattle.std.specs.Prelude.{◌≡◌, true, ◌&&◌, ◌<◌, ◌≤◌, length};
+ghost use Rattle.std.specs.Prelude.{◌≡◌, true, ◌&&◌, ◌<◌, ◌≤◌};
 ghost use Rattle.loops.specs.Below.{all_below};
 ghost use Rattle.group.specs.Words.{num, session_word, formed_ok};
 ghost use Rattle.group.specs.Quorum.{is_group};
 ghost use Rattle.record.specs.Layout.{own, core, least, number, primary, place_at};
-ghost use Rattle.record.specs.Whole.{group_whole, limits_whole, primary_whole, formed_whole, used_ok, place_whole, apart_whole, top_whole, marks_ok, marks_whole, whole};
+ghost use Rattle.record.specs.Whole.{group_whole, limits_whole, primary_whole, formed_whole, used_ok, place_whole, apart_whole, top_whole, marks_ok, marks_whole, words_whole, whole};
 
 use group::Group;
 use group::heads::{shared, size, wide, without_head};
 use group::words::{formed_fits, has_head, heads_of, lies_in, number_of, primary_ok};
 use record::layout::{
-    core, entered, formed_for, least, marks_at, number, own, place_at, primary, settings,
+    Record, core, entered, formed_for, least, marks_at, number, own, place_at, places, primary,
+    settings,
 };
 
 // W0 is not empty, and Q is from 1 to its size.
+#[tactic(auto, unfolding(group::specs::Quorum::is_group, group::specs::Heads::empty))]
 pub fn is_group(core: u16, least: u8) -> bool
     ensures { result ≡ is_group core least }
 {
@@ -23,16 +25,15 @@ pub fn is_group(core: u16, least: u8) -> bool
     (all != 0) & (least != 0) & (least as u32 <= all)
 }
 
-fn group_whole(rec: &[u64]) -> bool
-    requires { length rec.now ≡ 52 }
+#[tactic(auto, unfolding(record::specs::Whole::group_whole))]
+fn group_whole(rec: &Record) -> bool
     ensures { result ≡ group_whole rec.now }
 {
     is_group(core(rec), least(rec)) & (settings(rec) / 16777216 < Group::HEADS as u64)
 }
 
 // Words 0 to 3. That last primary is a session word follows: it has own head, or is none, and its number is within the limits.
-fn first_whole(rec: &[u64]) -> bool
-    requires { length rec.now ≡ 52 }
+fn first_whole(rec: &Record) -> bool
     ensures { result ≡ (group_whole rec.now && limits_whole rec.now && primary_whole rec.now && top_whole rec.now) }
 {
     let p = primary(rec);
@@ -52,23 +53,18 @@ fn formed_whole(own: usize, p: u64, q: usize, w: u64) -> bool
     formed_fits(own, p, q, w)
 }
 
-fn all_formed(rec: &[u64]) -> bool
-    requires { (length rec.now ≡ 52) × (session_word (primary rec.now) ≡ true) }
+fn all_formed(rec: &Record) -> bool
+    requires { session_word (primary rec.now) ≡ true }
     ensures { result ≡ all_below 16 (formed_whole rec.now) }
 {
     let h = own(rec);
     let p = primary(rec);
-    for q in 0..Group::HEADS {
-        if !formed_whole(h, p, q, formed_for(rec, q)) {
-            return false;
-        }
-    }
-    true
+    (0..Group::HEADS).all(|q| formed_whole(h, p, q, formed_for(rec, q)))
 }
 
 // A used place w. It is a session word: it has own head, and its number is at most the session number, which is within the limits.
-fn used_ok(rec: &[u64], w: u64) -> bool
-    requires { (length rec.now ≡ 52) × (number rec.now ≤ 4294967295) × (w ≡ 0 → ⊥) }
+fn used_ok(rec: &Record, w: u64) -> bool
+    requires { (number rec.now ≤ 4294967295) × (w ≡ 0 → ⊥) }
     ensures { result ≡ used_ok (own rec.now) (core rec.now) (least rec.now) (primary rec.now) (number rec.now) w }
 {
     let n = number_of(w);
@@ -86,22 +82,17 @@ fn marks_ok(own: usize, w: u64, m: u64) -> bool
 }
 
 // Place i, used, and the places before it. A free one has another number: 0.
-fn apart_whole(rec: &[u64], i: usize) -> bool
-    requires { (length rec.now ≡ 52) × (i < 16) × (1 ≤ num (place_at rec.now i)) }
+fn apart_whole(rec: &Record, i: usize) -> bool
+    requires { (i < 16) × (1 ≤ num (place_at rec.now i)) }
     ensures { result ≡ apart_whole rec.now i }
 {
     let n = number_of(place_at(rec, i));
-    for j in 0..i {
-        if n == number_of(place_at(rec, j)) {
-            return false;
-        }
-    }
-    true
+    places(rec)[..i].iter().all(|w| n != number_of(*w))
 }
 
 // Place i, the places before it and its marks.
-fn place_whole(rec: &[u64], i: usize) -> bool
-    requires { (length rec.now ≡ 52) × (i < 16) × (number rec.now ≤ 4294967295) }
+fn place_whole(rec: &Record, i: usize) -> bool
+    requires { (i < 16) × (number rec.now ≤ 4294967295) }
     ensures { result ≡ (place_whole rec.now i && apart_whole rec.now i && marks_whole rec.now i) }
 {
     let w = place_at(rec, i);
@@ -114,27 +105,27 @@ fn place_whole(rec: &[u64], i: usize) -> bool
     apart_whole(rec, i) & marks_ok(own(rec), w, marks_at(rec, i))
 }
 
-fn all_places(rec: &[u64]) -> bool
-    requires { (length rec.now ≡ 52) × (number rec.now ≤ 4294967295) }
+fn all_places(rec: &Record) -> bool
+    requires { number rec.now ≤ 4294967295 }
     ensures { result ≡ all_below 16 (λ i. place_whole rec.now i && apart_whole rec.now i && marks_whole rec.now i) }
 {
-    for i in 0..Group::PLACES {
-        if !place_whole(rec, i) {
-            return false;
-        }
-    }
-    true
+    (0..Group::PLACES).all(|i| place_whole(rec, i))
+}
+
+// Whether the words of a record are whole. The rest is asked where words 0 to 3 pass.
+pub fn words_whole(rec: &Record) -> bool
+    ensures { result ≡ words_whole rec.now }
+{
+    first_whole(rec) && all_formed(rec) && all_places(rec)
 }
 
 // Whether these words, of any length, are a whole record.
+#[tactic(auto, using(record::proofs::Laws::Whole::by_length))]
 pub fn is_whole(rec: &[u64]) -> bool
     ensures { result ≡ whole rec.now }
 {
-    if rec.len() != Group::WORDS {
-        return false;
+    match rec.as_array() {
+        Some(rec) => words_whole(rec),
+        None => false,
     }
-    if !first_whole(rec) {
-        return false;
-    }
-    all_formed(rec) & all_places(rec)
 }

@@ -22,5 +22,5 @@ whole-stays r k e =
 pub returns-then-is_whole : goal.returns-then-is_whole
 returns-then-is_whole c = whole-stays _ _ (sym c.is_whole.ensures ∙ c.if-is_whole.true)
 
-pub returns-then-rec-ne-WORDS : goal.returns-then-rec-ne-WORDS
-returns-then-rec-ne-WORDS c = recover-refused _ _ (other_length _ c.if-rec-ne-WORDS.true)
+pub returns-in_default : goal.returns-in_default
+returns-in_default c = recover-refused _ _ (other_length _ c.in_default.ensures.cases)

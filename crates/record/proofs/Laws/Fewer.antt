@@ -8,19 +8,23 @@ use Prim.Native.Nat.{ℕ, ◌≤◌, ◌<◌}
 use native.Mathlib.Nat.{lt_irrefl}
 use native.Mathlib.Omega.{arith}
 use lib.Dec.{eqb, leb, ltb}
-use lib.ListN.{length}
+use lib.ListN.{length, take}
 use borrow.Author.Tests.{ne_eqb, eqb-false, leb-true, le-leb, ltb-true, lt-ltb}
+use Rattle.std.specs.List.{list_all}
+use Rattle.std.proofs.lemmas.List.{get_or-take, length-take-le}
 use Rattle.loops.specs.Below.{all_below}
-use Rattle.loops.proofs.Laws.Truth.{and_left, and_right, and_both, not-both, not-true, fails-if, test-ext}
+use Rattle.loops.proofs.Laws.Chains.{all-chain}
+use Rattle.loops.proofs.Laws.Truth.{and_left, and_right, and_both, not-both, not-true, fails-if, passes-or-fails, test-ext}
 use Rattle.loops.proofs.Laws.Tests.{all-at, all_of}
 use Rattle.group.specs.Heads.{has, shared}
 use Rattle.group.specs.Words.{heads, num, rank, sound, session_word, primary_ok, formed_ok}
 use Rattle.group.specs.Quorum.{enough}
 use Rattle.group.proofs.Laws.Words.{rank-none, rank-some, none_or_some, word_sound, word_number}
 use Rattle.group.proofs.Laws.Formed.{formed-cases, has-sound, primary-sound, formed-sound, formed-number}
-use Rattle.record.specs.Layout.{core, least, own, entered, number, primary, place_at, marks_at}
-use Rattle.record.specs.Whole.{group_whole, limits_whole, primary_whole, formed_whole, used_ok, place_whole, apart, apart_whole, top_whole, marks_whole, whole}
-use Rattle.record.proofs.Laws.Whole.{make-whole, whole_parts, used-parts, make-used, place-cases, apart-at, apart_of, free-whole, free-apart, marks-free}
+use Rattle.record.specs.Layout.{core, least, own, entered, number, primary, place_at, marks_at, places}
+use Rattle.record.specs.Whole.{group_whole, limits_whole, primary_whole, formed_whole, used_ok, place_whole, apart, apart_whole, top_whole, marks_whole, words_whole, whole}
+use Rattle.record.proofs.Laws.Words.{length-places, place-in}
+use Rattle.record.proofs.Laws.Whole.{right_length, make-whole, whole_parts, used-parts, make-used, place-cases, apart-at, apart_of, free-whole, free-apart, marks-free}
 
 -- a test from which another follows is the two of them
 implied : (a b : Bool) → (b ≡ true → a ≡ true) → b ≡ (a && b)
@@ -128,6 +132,15 @@ apart-test r i j one =
     (λ e. ap not (ne_eqb (num (place_at r i)) (num (place_at r j)) (λ n.
     apart-at r i j e (λ z. lt_irrefl 0 (omega (arith, ap num z))) (λ z. lt_irrefl 0 (omega (arith, ap num z))) n)))
 
+-- so the places before it are asked by their numbers
+pub apart-places : (r : List ℕ) (i : ℕ) → i ≤ 16 → 1 ≤ num (place_at r i)
+    → list_all (λ w. not (eqb (num (place_at r i)) (num w))) (take i (places r)) ≡ apart_whole r i
+unfolding apart_whole
+apart-places r i h one =
+    all-chain (λ w. not (eqb (num (place_at r i)) (num w))) (apart r i) (take i (places r)) 0 i (length-take-le i (places r) (omega (arith, length-places r)))
+    (λ j l.
+    ap (λ (w : ℕ). not (eqb (num (place_at r i)) (num w))) (get_or-take i (places r) j 0 l ∙ place-in r j (omega arith)) ∙ apart-test r i j one)
+
 -- a place that is not free is asked by the test of a used one
 pub used-place : (r : List ℕ) (i : ℕ) {w : ℕ} {u : Bool} → w ≡ place_at r i → (w ≡ 0 → ⊥)
     → u ≡ used_ok (own r) (core r) (least r) (primary r) (number r) w → u ≡ place_whole r i
@@ -150,14 +163,14 @@ unused-tests r i f = rw f
 
 -- ---- the whole record
 
-pub not_first : (r : List ℕ) → (group_whole r && limits_whole r && primary_whole r && top_whole r) ≡ false → whole r ≡ false
+not_first : (r : List ℕ) → (group_whole r && limits_whole r && primary_whole r && top_whole r) ≡ false → whole r ≡ false
 unfolding limits_whole top_whole
 not_first r f = fails-if (whole r) (λ e.
     let w = whole_parts r e in
     not-both _ (and_both _ _ (and_both _ _ (and_both _ _ w.group (and_both _ _ (le-leb (entered r) 4294967295 w.view) (le-leb (number r) 4294967295 w.top))) w.last) (le-leb (num (primary r)) (number r) w.highest)) f)
 
 -- the rest of a record whose words 0 to 3 pass
-pub rest-tests : (r : List ℕ) {a b : Bool} → length r ≡ 52 → (group_whole r && limits_whole r && primary_whole r && top_whole r) ≡ true
+rest-tests : (r : List ℕ) {a b : Bool} → length r ≡ 52 → (group_whole r && limits_whole r && primary_whole r && top_whole r) ≡ true
     → a ≡ all_below 16 (formed_whole r) → b ≡ all_below 16 (λ i. place_whole r i && apart_whole r i && marks_whole r i) → (a && b) ≡ whole r
 unfolding apart_whole
 rest-tests r {a} {b} l t ea eb =
@@ -181,3 +194,12 @@ rest-tests r {a} {b} l t ea eb =
     and_both a b
     (ea ∙ all_of 16 (formed_whole r) w.formed)
     (eb ∙ all_of 16 _ (λ i h. and_both _ _ (and_both _ _ (w.places i h) (all_of i (apart r i) (w.apart-places i h))) (w.marks i h))))
+
+-- all of it, of 52 words
+pub all_tests : (r : List ℕ) {f a b : Bool} → length r ≡ 52 → f ≡ (group_whole r && limits_whole r && primary_whole r && top_whole r)
+    → a ≡ all_below 16 (formed_whole r) → b ≡ all_below 16 (λ i. place_whole r i && apart_whole r i && marks_whole r i) → (f && (a && b)) ≡ words_whole r
+all_tests r {f} {a} {b} l ef ea eb =
+    ⊎_elim
+    (λ t. ap (λ (x : Bool). x && (a && b)) (ef ∙ t) ∙ rest-tests r l t ea eb ∙ right_length r l)
+    (λ n. ap (λ (x : Bool). x && (a && b)) (ef ∙ n) ∙ sym (not_first r n) ∙ right_length r l)
+    (passes-or-fails (group_whole r && limits_whole r && primary_whole r && top_whole r))

@@ -23,6 +23,12 @@ pub other_length : (r : List ℕ) → (length r ≡ 52 → ⊥) → whole r ≡ 
 unfolding whole
 other_length r h = ap (λ (b : Bool). b && words_whole r) (ne_eqb (length r) 52 h)
 
+pub right_length : (r : List ℕ) → length r ≡ 52 → whole r ≡ words_whole r
+unfolding whole
+right_length r h = ap (λ (b : Bool). b && words_whole r) (eq-eqb (length r) 52 h)
+
+pub ruleset by_length = (other_length, right_length)
+
 pub whole_length : (r : List ℕ) → whole r ≡ true → length r ≡ 52
 unfolding whole
 whole_length r e = eqb-true (length r) 52 (and_left (eqb (length r) 52) (words_whole r) e)

@@ -17,9 +17,11 @@ use Rattle.store.specs.Program.{exec, script, after, up_to}
 use Rattle.store.proofs.Laws.Put.{diff_if-short}
 use Rattle.store.proofs.Laws.Program.{exec-take, exec-cuts, script-one, append-short, up_to-short}
 use Rattle.record.specs.Layout.{primary, place_at, store_number, store_formed, store_place, store_marks}
-use Rattle.record.specs.Whole.{whole}
+use Rattle.record.specs.Whole.{whole, words_whole}
 use Rattle.record.specs.Outcome.{Outcome}
 use Rattle.record.proofs.Laws.Outcome.{one-outcome}
+use Rattle.record.proofs.Laws.Whole.{right_length}
+use Rattle.recovery.proofs.Laws.Mended.{mended-length}
 use Rattle.recovery.specs.Recover.{greatest, raise_step, formed_step, clear_step, wipe_step, mend_program, mended, mendable, recover_spec}
 use Rattle.recovery.specs.Statements.{EndsRecovered, Determined}
 
@@ -50,6 +52,10 @@ module _ (r : List ℕ) where
   pub right-length : length r ≡ 52 → mendable r ≡ whole (mended r)
   unfolding mendable
   right-length h = ap (λ (b : Bool). b && whole (mended r)) (eq-eqb (length r) 52 h)
+
+  -- of 52 words it is asked of the words of the recovered record
+  pub mends-words : length r ≡ 52 → mendable r ≡ words_whole (mended r)
+  mends-words h = right-length h ∙ right_length (mended r) (mended-length r ∙ h)
 
 module _ (r : List ℕ) (k : ℕ) where
   pub recover-refused : mendable r ≡ false → leaves (refused 2) r ≡ recover_spec r k

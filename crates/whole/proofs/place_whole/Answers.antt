@@ -5,7 +5,6 @@ use native.Mathlib.Omega.{arith}
 use Rattle.loops.proofs.Laws.Truth.{failed, passed}
 use Rattle.record.specs.Whole.{place_whole, marks_whole}
 use Rattle.record.proofs.Laws.Fewer.{free-tests, used-place, used-number, used-tests, unused-tests}
-use borrow.Author.Rules.{rules}
 use Rattle.whole.proofs.place_whole.Goals.{Else-not-used_ok}
 use Rattle.whole.proofs.place_whole.Goals as goal
 
@@ -19,7 +18,7 @@ used-here : (c : Else-not-used_ok) → place_whole c.args.rec.now c.args.i ≡ t
 used-here c = passed _ _ (used-place _ _ c.place_at-w.ensures c.if-w-eq0.false c.used_ok.ensures) c.if-not-used_ok.false-raw
 
 pub apart_whole-requires : goal.apart_whole-requires
-apart_whole-requires c = (search rules, omega arith, used-number _ _ c.place_at-w.ensures c.if-w-eq0.false (used-here c))
+apart_whole-requires c = (omega arith, used-number _ _ c.place_at-w.ensures c.if-w-eq0.false (used-here c))
 
 pub returns : goal.returns
 unfolding marks_whole

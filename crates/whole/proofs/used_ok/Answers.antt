@@ -5,4 +5,4 @@ use Rattle.record.proofs.Laws.Fewer.{used-test}
 use Rattle.whole.proofs.used_ok.Goals as goal
 
 pub returns : goal.returns
-returns c = used-test _ _ _ _ _ _ c.own.ensures.1 (omega arith) c.requires.2 c.has_head.ensures c.heads_of.ensures c.shared-backing.ensures c.number_of-low.ensures c.number_of-n.ensures ∙ rw (c.own.ensures.0, c.core.ensures, c.least.ensures, c.primary.ensures, c.number.ensures)
+returns c = used-test _ _ _ _ _ _ c.own.ensures.1 (omega arith) c.requires.1 c.has_head.ensures c.heads_of.ensures c.shared-backing.ensures c.number_of-low.ensures c.number_of-n.ensures ∙ rw (c.own.ensures.0, c.core.ensures, c.least.ensures, c.primary.ensures, c.number.ensures)
