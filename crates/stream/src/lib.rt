@@ -8,8 +8,8 @@ ghost use Rattle.text.specs.Printer.{Room, Puts};
 ghost use Rattle.shown.specs.Shown.{shown, printed, room};
 ghost use Rattle.stream.specs.Parts.{Counts};
 
-use reader::{judge, read_line, split_line};
-use shown::print;
+use reader::{judge, split_line};
+use shown::{print, print_refused};
 use text::Printer;
 
 // What a part of the input came to: bytes printed, and bytes held of the line that it begins.
@@ -78,6 +78,9 @@ pub fn finish(held: &[u8], out: &mut [u8]) -> usize
         return 0;
     }
     let mut printer = Printer { out, end: 0 };
-    print(&mut printer, &read_line(held));
+    match split_line(held) {
+        Some((line, _)) => print_line(&mut printer, line),
+        None => print_refused(&mut printer),
+    }
     printer.end
 }

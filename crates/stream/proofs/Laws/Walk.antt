@@ -10,9 +10,10 @@ use Rattle.loops.proofs.Laws.Order.{lt-or-ge}
 use Rattle.lines.specs.Hex.{line_end, line_of, rest_of}
 use Rattle.lines.specs.Reading.{judged, read_line}
 use Rattle.lines.specs.Walk.{whole_lines, begun, last_line}
+use Rattle.lines.proofs.Laws.Reading.{first-line, no_line-breaks}
 use Rattle.lines.proofs.Laws.Walk.{first-whole, none-whole}
-use Rattle.shown.specs.Shown.{shown, printed, room}
-use Rattle.stream.proofs.Laws.Shown.{room-le, printed-first}
+use Rattle.shown.specs.Shown.{shown, refused_text, printed, room}
+use Rattle.stream.proofs.Laws.Shown.{room-le, broken-shown, printed-first}
 
 pub record Walked (s out rest : List ℕ) (put : ℕ) : Type 0 where
   pub fits : put + 4 * length rest ≤ 4 * length s
@@ -112,7 +113,13 @@ unfolding printed last_line
 last_none [] e = refl
 last_none (b ∷ s) e = absurd (omega arith)
 
-pub last_some : (s : List ℕ) → (length s ≡ 0 → ⊥) → shown (read_line s) ≡ printed (last_line s)
+last_some : (s : List ℕ) → (length s ≡ 0 → ⊥) → shown (read_line s) ≡ printed (last_line s)
 unfolding printed last_line
 last_some [] z = absurd (z refl)
 last_some (b ∷ s) z = sym (append-nil (shown (read_line (b ∷ s))))
+
+pub last-first : (s line : List ℕ) → (length s ≡ 0 → ⊥) → line_end s < length s → line ≡ line_of s → shown (judged line) ≡ printed (last_line s)
+last-first s line z h e = ap (λ (l : List ℕ). shown (judged l)) e ∙ ap shown (sym (first-line s h)) ∙ last_some s z
+
+pub last-refused : (s : List ℕ) → (length s ≡ 0 → ⊥) → length s ≤ line_end s → refused_text ≡ printed (last_line s)
+last-refused s z h = sym (broken-shown 1) ∙ ap shown (sym (no_line-breaks s h)) ∙ last_some s z
