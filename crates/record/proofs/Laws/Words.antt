@@ -52,6 +52,8 @@ pub length-marks : (r : List ℕ) → length (marks r) ≡ 16
 unfolding marks
 length-marks r = length-table 16 (marks_at r)
 
+pub ruleset sixteen = (length-formed, length-places, length-marks)
+
 pub formed-in : (r : List ℕ) (q : ℕ) → q < 16 → get_or (formed r) q 0 ≡ formed_for r q
 unfolding formed
 formed-in r q h = get_d-table 16 (formed_for r) q 0 h
