@@ -26,10 +26,6 @@ use Rattle.record.specs.Start.{taken_least, can_start, start_spec}
 
 -- ---- the call, case by case
 
-pub can-test : (head core q : ℕ) {b : Bool} → b ≡ is_group core q → (leb head 15 && b) ≡ can_start head core q
-unfolding can_start
-can-test head core q e = ap (λ (b : Bool). leb head 15 && b) e
-
 module _ (r : List ℕ) (head core least : ℕ) {q : ℕ} (taken : q ≡ taken_least least) where
   pub not-a-group : can_start head core q ≡ false → record { answer = refused 1; rec = r } ≡ start_spec r head core least
   unfolding start_spec
