@@ -4,32 +4,26 @@
 ghost use Rattle.std.specs.Prelude.{◌≡◌, true, ◌&&◌, ◌<◌, ◌≤◌};
 ghost use Rattle.loops.specs.Below.{all_below};
 ghost use Rattle.group.specs.Words.{num, session_word, formed_ok};
-ghost use Rattle.group.specs.Quorum.{is_group};
 ghost use Rattle.record.specs.Layout.{own, core, least, number, primary, place_at};
 ghost use Rattle.record.specs.Whole.{group_whole, limits_whole, primary_whole, formed_whole, used_ok, place_whole, apart_whole, top_whole, marks_ok, marks_whole, words_whole, whole};
 
 use group::Group;
-use group::heads::{shared, size, wide, without_head};
+use group::heads::{shared, without_head};
 use group::words::{formed_fits, has_head, heads_of, lies_in, number_of, primary_ok};
 use record::layout::{
     Record, core, entered, formed_for, least, marks_at, number, own, place_at, places, primary,
     settings,
 };
 
-// W0 is not empty, and Q is from 1 to its size.
-#[tactic(auto, unfolding(group::specs::Quorum::is_group, group::specs::Heads::empty))]
-pub fn is_group(core: u16, least: u8) -> bool
-    ensures { result ≡ is_group core least }
-{
-    let all = size(core);
-    (all != 0) & (least != 0) & (least as u32 <= all)
-}
-
 #[tactic(auto, unfolding(record::specs::Whole::group_whole))]
 fn group_whole(rec: &Record) -> bool
     ensures { result ≡ group_whole rec.now }
 {
-    is_group(core(rec), least(rec)) & (settings(rec) / 16777216 < Group::HEADS as u64)
+    let group = Group {
+        core: core(rec),
+        least: least(rec),
+    };
+    group.is_group() & (settings(rec) / 16777216 < Group::HEADS as u64)
 }
 
 // Words 0 to 3. That last primary is a session word follows: it has own head, or is none, and its number is within the limits.
@@ -78,7 +72,7 @@ fn marks_ok(own: usize, w: u64, m: u64) -> bool
     requires { (own < 16) × (w ≡ 0 → ⊥) }
     ensures { result ≡ marks_ok own w m }
 {
-    lies_in(m, wide(without_head(heads_of(w), own as u8)))
+    lies_in(m, u64::from(without_head(heads_of(w), own as u8)))
 }
 
 // Place i, used, and the places before it. A free one has another number: 0.
