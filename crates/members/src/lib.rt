@@ -6,39 +6,22 @@ ghost use Rattle.group.specs.Heads.{has};
 ghost use Rattle.group.specs.Words.{rank, highest_of};
 
 use group::Group;
-use group::heads::{top_head, wide};
+use group::heads::top_head;
 use group::words::{has_head, rank_of};
-
-// Head q is a member.
-pub fn is_member(m: u16, q: usize) -> bool
-    requires { q < 16 }
-    ensures { result ≡ has m q }
-{
-    has_head(wide(m), q)
-}
 
 // Head q is a member other than own head.
 pub fn is_other(m: u16, own: usize, q: usize) -> bool
     requires { q < 16 }
     ensures { result ≡ (has m q && not (eqb q own)) }
 {
-    is_member(m, q) & (q != own)
+    has_head(u64::from(m), q) & (q != own)
 }
 
 // One above the highest member: no head from there on is a member.
 pub fn members_end(m: u16) -> usize
     ensures { (result ≤ 16) × ((q : ℕ) → result ≤ q → has m q ≡ false) }
 {
-    top_head(m) as usize + 1
-}
-
-pub fn choose(c: bool, a: u64, b: u64) -> u64
-    ensures { result ≡ cond c a b }
-{
-    if c {
-        return a;
-    }
-    b
+    usize::from(top_head(m)) + 1
 }
 
 // A member's value: own head's is mine, another's is theirs; 0 for who is no member.
@@ -46,23 +29,25 @@ pub fn of_member(m: u16, own: usize, q: usize, mine: u64, theirs: u64) -> u64
     requires { q < 16 }
     ensures { result ≡ cond (has m q) (cond (eqb q own) mine theirs) 0 }
 {
-    choose(is_member(m, q), choose(q == own, mine, theirs), 0)
+    if !has_head(u64::from(m), q) {
+        0
+    } else if q == own {
+        mine
+    } else {
+        theirs
+    }
 }
 
 // The higher-numbered of two sessions, the first on a tie.
 pub fn higher(w: u64, v: u64) -> u64
     ensures { result ≡ cond (ltb (rank w) (rank v)) v w }
 {
-    choose(rank_of(w) < rank_of(v), v, w)
+    if rank_of(w) < rank_of(v) { v } else { w }
 }
 
 // The highest-numbered of sixteen sessions, the first on a tie.
-pub fn highest_of(words: [u64; Group::HEADS]) -> u64
-    ensures { result ≡ highest_of 16 (λ i. get_or words i 0) }
+pub fn highest_of(words: &[u64; Group::HEADS]) -> u64
+    ensures { result ≡ highest_of 16 (λ i. get_or words.now i 0) }
 {
-    let mut w: u64 = 0;
-    for i in 0..Group::HEADS {
-        w = higher(w, words[i]);
-    }
-    w
+    words.iter().fold(0, |w, v| higher(w, *v))
 }

@@ -1,16 +1,18 @@
--- Before turn i the word is the highest of those before i.
-use mathlib.Core.Path.{sym, ◌∙◌}
-use native.Mathlib.Omega.{arith}
-use Rattle.loops.proofs.Laws.Fold.{fold-none, fold-again, fold_end}
-use Rattle.group.specs.Words.{highest_of}
+-- The fold over the sessions is the recursion over their indexes.
+use mathlib.Core.Path.{◌≡◌, refl, ◌∙◌}
+use mathlib.Core.Bool.{cond}
+use mathlib.Core.List.{List}
+use lib.Dec.{ltb}
+use lib.ListN.{length, get_or}
+use Rattle.std.proofs.Common.{ℕ, rules}
+use Rattle.std.specs.List.{fold}
+use Rattle.loops.proofs.Laws.Chains.{fold-chain}
+use Rattle.group.specs.Words.{rank, highest_of}
 use Rattle.members.proofs.highest_of.Goals as goal
 
-pub loop-i-init : goal.loop-i-init
-loop-i-init c = (omega arith, sym (fold-none _ _))
-
-pub loop-i-preserved : goal.loop-i-preserved
-loop-i-preserved c = (omega arith, fold-again _ _ _ c.loop-i.invariant.1 c.higher-w.ensures)
+highest-chain : {w : ℕ} (words : List ℕ) → length words ≡ 16 → w ≡ fold (λ w v. cond (ltb (rank w) (rank v)) v w) 0 words → w ≡ highest_of 16 (λ i. get_or words i 0)
+unfolding highest_of
+highest-chain words h e = e ∙ fold-chain _ _ 0 words 0 16 h (λ i s k. refl)
 
 pub returns : goal.returns
-unfolding highest_of
-returns c = c.loop-i.invariant.1 ∙ fold_end _ _ _ _ c.loop-i.invariant.0 c.loop-i-test.false
+returns c = highest-chain c.args.words.now c.told-words (search rules)
