@@ -3,4 +3,4 @@ use Rattle.plan.proofs.Laws.Stores.{attempt-chain}
 use Rattle.changes.proofs.attempt.Goals as goal
 
 pub returns : goal.returns
-returns c = attempt-chain _ _ _ c.number_of.ensures c.put_place-p.ensures c.put_number.ensures
+returns c = attempt-chain _ _ _ c.number_of.ensures c.put-p.ensures c.put.ensures

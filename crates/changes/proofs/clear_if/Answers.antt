@@ -3,4 +3,4 @@ use Rattle.plan.proofs.Laws.Stores.{clear-chain}
 use Rattle.changes.proofs.clear_if.Goals as goal
 
 pub returns : goal.returns
-returns c = clear-chain _ _ _ c.put_place_if-p.ensures c.put_marks_if.ensures
+returns c = clear-chain _ _ _ c.put_if-p.ensures c.put_if.ensures
