@@ -1,5 +1,5 @@
 // b. Adoption of the highest-numbered session that another member last formed with own head.
-ghost use Rattle.std.specs.Prelude.{◌≡◌, not, ◌&&◌, cond, [], ◌<◌, eqb, ltb, length, get_or};
+ghost use Rattle.std.specs.Prelude.{◌≡◌, not, ◌&&◌, cond, [], ◌<◌, eqb, ltb, get_or};
 ghost use Rattle.loops.specs.Below.{table};
 ghost use Rattle.group.specs.Heads.{has};
 ghost use Rattle.group.specs.Words.{rank};
@@ -12,67 +12,59 @@ ghost use Rattle.plan.specs.Adoption.{offered};
 use changes::take_over;
 use group::Group;
 use group::words::{number_of, rank_of};
-use members::{choose, is_other};
-use record::layout::{number, own, place_at, primary};
+use members::is_other;
+use record::layout::{Record, number, own, place_at, primary};
 use state::{Held, State};
+use std::array;
 use store::Pen;
 
 // What q offers, of whom state st is held: its last formed for own head; nothing where it is no other member.
-fn offer(m: u16, own: usize, q: usize, st: State) -> u64
+fn offer(m: u16, own: usize, q: usize, st: &State) -> u64
     requires { (own < 16) × (q < 16) }
-    ensures { result ≡ cond (has m q && not (eqb q own)) (get_or st.formed own 0) 0 }
+    ensures { result ≡ cond (has m q && not (eqb q own)) (get_or st.now.formed own 0) 0 }
 {
-    let formed = st.formed;
-    choose(is_other(m, own, q), formed[own], 0)
+    if is_other(m, own, q) {
+        st.formed[own]
+    } else {
+        0
+    }
 }
 
 // What each head offers.
-pub fn offers(rec: &[u64], m: u16, held: Held) -> [u64; Group::HEADS]
-    requires { length rec.now ≡ 52 }
-    ensures { result ≡ table 16 (offered m held rec.now) }
+pub fn offers(rec: &Record, m: u16, held: &Held) -> [u64; Group::HEADS]
+    ensures { result ≡ table 16 (offered m held.now rec.now) }
 {
     let p = own(rec);
-    let mut all = [0u64; Group::HEADS];
-    for q in 0..Group::HEADS {
-        let st = held.of[q];
-        all[q] = offer(m, p, q, st);
-    }
-    all
+    array::from_fn(|q| offer(m, p, q, &held.of[q]))
 }
 
 // Place i is used and numbered at or below session w.
-fn past(rec: &[u64], w: u64, i: usize) -> bool
-    requires { (length rec.now ≡ 52) × (i < 16) }
+#[tactic(auto, unfolding(recovery::specs::Changes::past))]
+fn past(rec: &Record, w: u64, i: usize) -> bool
+    requires { i < 16 }
     ensures { result ≡ past_of rec.now w i }
 {
     let s = place_at(rec, i);
     (s != 0) & (rank_of(s) <= rank_of(w))
 }
 
-fn all_past(rec: &[u64], w: u64) -> [bool; Group::PLACES]
-    requires { length rec.now ≡ 52 }
+fn all_past(rec: &Record, w: u64) -> [bool; Group::PLACES]
     ensures { result ≡ table 16 (past_of rec.now w) }
 {
-    let mut all = [false; Group::PLACES];
-    for i in 0..Group::PLACES {
-        all[i] = past(rec, w, i);
-    }
-    all
+    array::from_fn(|i| past(rec, w, i))
 }
 
 // Adopts session w.
-fn adopt(rec: &mut [u64], pen: Pen, w: u64) -> Pen
-    requires { length rec.old ≡ 52 }
+fn adopt(rec: &mut Record, pen: Pen, w: u64) -> Pen
     ensures { desk rec.new result ≡ run (adopt_change rec.old w) (desk rec.old pen) }
 {
     let rises = number(rec) < number_of(w);
     let cleared = all_past(rec, w);
-    take_over(rec, pen, w, rises, cleared)
+    take_over(rec, pen, w, rises, &cleared)
 }
 
 // Adopts session w if it is numbered above last primary.
-pub fn adopt_above(rec: &mut [u64], pen: Pen, w: u64) -> Pen
-    requires { length rec.old ≡ 52 }
+pub fn adopt_above(rec: &mut Record, pen: Pen, w: u64) -> Pen
     ensures { desk rec.new result ≡ run (cond (ltb (rank (primary_of rec.old)) (rank w)) (adopt_change rec.old w) []) (desk rec.old pen) }
 {
     if rank_of(w) <= rank_of(primary(rec)) {

@@ -1,16 +1,9 @@
--- Before turn i the table is filled up to i.
-use mathlib.Core.Path.{◌∙◌}
+-- Each element of the array is its index's test.
 use mathlib.Core.Bool.{false}
-use native.Mathlib.Omega.{arith}
-use lib.ListN.{length-set}
-use Rattle.loops.proofs.Laws.Lists.{fill_none, fill-again, fill-all}
+use Rattle.std.proofs.Common.{rules}
+use Rattle.loops.proofs.Laws.Chains.{from_fn-table}
+use Rattle.recovery.specs.Changes.{past}
 use Rattle.learning.proofs.adoption.all_past.Goals as goal
 
-pub loop-i-init : goal.loop-i-init
-loop-i-init c = (omega arith, omega arith, fill_none 16 _ false)
-
-pub loop-i-preserved : goal.loop-i-preserved
-loop-i-preserved c = (omega arith, simp length-set c.loop-i.invariant.1, fill-again 16 _ false _ (omega arith) c.loop-i.invariant.2 c.past.ensures)
-
 pub returns : goal.returns
-returns c = c.loop-i.invariant.2 ∙ fill-all 16 _ false _ c.loop-i-test.false
+returns c = from_fn-table _ (past c.args.rec.now c.args.w) false 16 c.from_fn.ensures.items (λ i r q k. search rules)
