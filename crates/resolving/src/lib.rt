@@ -1,7 +1,7 @@
 // c. The places that are cleared because their session was not formed.
 #![tactic(auto)]
 
-ghost use Rattle.std.specs.Prelude.{◌≡◌, not, ◌&&◌, ◌<◌, eqb, length};
+ghost use Rattle.std.specs.Prelude.{◌≡◌, not, ◌&&◌, ◌<◌, eqb};
 ghost use Rattle.loops.specs.Below.{any_below};
 ghost use Rattle.group.specs.Heads.{has};
 ghost use Rattle.store.specs.Desk.{desk};
@@ -11,42 +11,32 @@ ghost use Rattle.plan.specs.Clearing.{lists as lists_of, behind as behind_of, de
 
 use changes::clear_if;
 use group::Group;
-use group::heads::{wide, without_head};
+use group::heads::without_head;
 use group::words::{has_head, heads_of, lies_in, rank_of};
 use members::is_other;
-use record::layout::{marks_at, own, place_at};
+use record::layout::{Record, marks_at, own, place_at};
 use state::{Held, State};
 use store::Pen;
 
 // All heads of place i but own are marked.
-fn all_marked(rec: &[u64], i: usize) -> bool
-    requires { (length rec.now ≡ 52) × (i < 16) }
+#[tactic(auto, unfolding(plan::specs::Clearing::all_marked))]
+fn all_marked(rec: &Record, i: usize) -> bool
+    requires { i < 16 }
     ensures { result ≡ all_marked rec.now i }
 {
-    let w = place_at(rec, i);
-    let p = own(rec);
-    let others = without_head(heads_of(w), p as u8);
-    lies_in(wide(others), marks_at(rec, i))
+    let others = without_head(heads_of(place_at(rec, i)), own(rec) as u8);
+    lies_in(u64::from(others), marks_at(rec, i))
 }
 
 // The state lists session w among its places.
-fn lists(st: State, w: u64) -> bool
-    ensures { result ≡ lists_of st w }
+fn lists(st: &State, w: u64) -> bool
+    ensures { result ≡ lists_of st.now w }
 {
-    let places = st.places;
-    let count = st.count;
-    for j in 0..Group::PLACES {
-        if count <= j {
-            return false;
-        }
-        if places[j] == w {
-            return true;
-        }
-    }
-    false
+    st.places.iter().take(st.count).any(|place| *place == w)
 }
 
 // Last primary p has a lower number than session w, or the same number and other heads.
+#[tactic(auto, unfolding(plan::specs::Clearing::behind))]
 fn behind(p: u64, w: u64) -> bool
     ensures { result ≡ behind_of p w }
 {
@@ -56,60 +46,44 @@ fn behind(p: u64, w: u64) -> bool
 }
 
 // Head q, of whom state st is held, is an other member that did not form session w.
-fn denies(m: u16, own: usize, w: u64, q: usize, st: State) -> bool
+fn denies(m: u16, own: usize, w: u64, q: usize, st: &State) -> bool
     requires { q < 16 }
-    ensures { result ≡ (has w q && (has m q && not (eqb q own)) && not (lists_of st w) && behind_of st.primary w) }
+    ensures { result ≡ (has w q && (has m q && not (eqb q own)) && not (lists_of st.now w) && behind_of st.now.primary w) }
 {
-    if !(has_head(w, q) & is_other(m, own, q)) {
-        return false;
-    }
-    if lists(st, w) {
-        return false;
-    }
-    behind(st.primary, w)
+    has_head(w, q) && is_other(m, own, q) && !lists(st, w) && behind(st.primary, w)
 }
 
 // Some other member denies session w.
-fn denied(rec: &[u64], m: u16, held: Held, w: u64) -> bool
-    requires { length rec.now ≡ 52 }
-    ensures { result ≡ any_below 16 (denies_of m held rec.now w) }
+fn denied(rec: &Record, m: u16, held: &Held, w: u64) -> bool
+    ensures { result ≡ any_below 16 (denies_of m held.now rec.now w) }
 {
     let p = own(rec);
-    for q in 0..Group::HEADS {
-        let st = held.of[q];
-        if denies(m, p, w, q, st) {
-            return true;
-        }
-    }
-    false
+    held.of
+        .iter()
+        .enumerate()
+        .any(|(q, st)| denies(m, p, w, q, st))
 }
 
-fn to_clear(rec: &[u64], m: u16, held: Held, i: usize) -> bool
-    requires { (length rec.now ≡ 52) × (i < 16) }
-    ensures { result ≡ to_clear m held rec.now i }
+#[tactic(auto, unfolding(plan::specs::Clearing::to_clear))]
+fn to_clear(rec: &Record, m: u16, held: &Held, i: usize) -> bool
+    requires { i < 16 }
+    ensures { result ≡ to_clear m held.now rec.now i }
 {
     let w = place_at(rec, i);
-    if w == 0 {
-        return false;
-    }
-    if all_marked(rec, i) {
-        return true;
-    }
-    denied(rec, m, held, w)
+    w != 0 && (all_marked(rec, i) || denied(rec, m, held, w))
 }
 
-fn clear_place(rec: &mut [u64], pen: Pen, m: u16, held: Held, i: usize) -> Pen
-    requires { (length rec.old ≡ 52) × (i < 16) }
-    ensures { desk rec.new result ≡ step_by (clear_step m held i) (desk rec.old pen) }
+fn clear_place(rec: &mut Record, pen: Pen, m: u16, held: &Held, i: usize) -> Pen
+    requires { i < 16 }
+    ensures { desk rec.new result ≡ step_by (clear_step m held.now i) (desk rec.old pen) }
 {
     let asked = to_clear(rec, m, held, i);
     clear_if(rec, pen, asked, i)
 }
 
 // Clears what c clears, passing over the free places.
-pub fn clear_places(rec: &mut [u64], pen: Pen, m: u16, held: Held) -> Pen
-    requires { length rec.old ≡ 52 }
-    ensures { desk rec.new result ≡ exec (up_to 16 (clear_step m held)) (desk rec.old pen) }
+pub fn clear_places(rec: &mut Record, pen: Pen, m: u16, held: &Held) -> Pen
+    ensures { desk rec.new result ≡ exec (up_to 16 (clear_step m held.now)) (desk rec.old pen) }
 {
     let mut p = pen;
     for i in 0..Group::PLACES {

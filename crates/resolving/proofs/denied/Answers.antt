@@ -1,20 +1,23 @@
--- Before turn q no head before q denies; the first that does decides.
-use mathlib.Core.Path.{sym, ◌∙◌}
-use native.Mathlib.Nat.{not-suc-le-zero}
-use native.Mathlib.Omega.{arith}
-use Rattle.loops.proofs.Laws.Order.{each-suc}
-use Rattle.loops.proofs.Laws.Tests.{any_of, any-not}
+-- The chain goes over the heads with what is held of them.
+use mathlib.Core.Path.{◌∙◌}
+use mathlib.Core.Bool.{not, ◌&&◌}
+use lib.Dec.{eqb}
+use Rattle.std.proofs.Common.{rules, tests, arith}
+use Rattle.std.proofs.lemmas.Iterator.{YieldsList-from_slice}
+use Rattle.std.proofs.lemmas.Iterator.Consumers.{YieldsList-from_enumerate}
+use Rattle.std.proofs.lemmas.Iterator.Search.{any_from_yields_List}
+use Rattle.loops.proofs.Laws.Chains.{any-enumerate}
+use Rattle.group.specs.Heads.{has}
+use Rattle.plan.specs.Clearing.{lists, behind}
+use Rattle.plan.specs.Members.{absent}
 use Rattle.plan.proofs.Laws.Branches.{denies-by}
 use Rattle.resolving.proofs.denied.Goals as goal
 
-pub loop-q-init : goal.loop-q-init
-loop-q-init c = (omega arith, λ k h. absurd (not-suc-le-zero h))
-
-pub returns-then-denies : goal.returns-then-denies
-returns-then-denies c = sym (any_of 16 _ _ c.loop-q-test.true (sym (c.denies.ensures ∙ denies-by _ _ _ _ c.own-p.ensures.0 _) ∙ c.if-denies.true))
-
-pub loop-q-preserved : goal.loop-q-preserved
-loop-q-preserved c = (omega arith, λ k h. each-suc _ c.loop-q.invariant.1 (sym (c.denies.ensures ∙ denies-by _ _ _ _ c.own-p.ensures.0 _) ∙ c.if-denies.false) k (omega arith))
-
 pub returns : goal.returns
-returns c = sym (any-not 16 _ (λ k h. c.loop-q.invariant.1 k (omega (arith, c.loop-q-test.false))))
+returns c =
+    let m = c.args.m in
+    let w = c.args.w in
+    let states = c.args.held.now.of in
+    any_from_yields_List (λ p. has w p.0 && (has m p.0 && not (eqb p.0 c.own-p.result)) && not (lists p.1 w) && behind p.1.primary w) _ _ c.any.result c.any.ensures.ran
+    (YieldsList-from_enumerate (YieldsList-from_slice states cc) (cc)) (λ x b q k. search (rules, tests))
+    ∙ any-enumerate _ _ states absent 16 (omega arith) (λ q h. denies-by m c.args.held.now c.args.rec.now q c.own-p.ensures.0 w)
