@@ -1,26 +1,30 @@
--- Before turn q the heads before q pass, and the first that fails decides; nothing is asked of who is no member, and no head from the end on is one.
-use mathlib.Core.Path.{refl, sym}
-use mathlib.Core.Logic.{⊎_elim}
-use native.Mathlib.Omega.{arith}
-use Rattle.loops.proofs.Laws.Truth.{failed, passed}
-use Rattle.loops.proofs.Laws.Order.{lt-or-ge}
-use Rattle.loops.proofs.Laws.Tests.{all_none, all-at, all_of, all_more, all-stop}
+-- The chain goes over the heads below the end with what is held of them; nothing is asked of who is no member, and no head from the end on is one.
+use mathlib.Core.Path.{refl, sym, ◌∙◌}
+use mathlib.Core.Bool.{not, ◌||◌, cond}
+use lib.Dec.{eqb}
+use lib.ListN.{take}
+use Rattle.std.proofs.Common.{rules, tests, arith}
+use Rattle.std.proofs.lemmas.List.{length-take-le, get_or-take}
+use Rattle.std.proofs.lemmas.Iterator.{YieldsList-from_slice}
+use Rattle.std.proofs.lemmas.Iterator.Consumers.{YieldsList-from_enumerate}
+use Rattle.std.proofs.lemmas.Iterator.Search.{all_from_yields_List}
+use Rattle.loops.proofs.Laws.Chains.{all-enumerate, all-short}
+use Rattle.group.specs.Heads.{has}
+use Rattle.record.specs.Layout.{own}
+use Rattle.plan.specs.Members.{absent}
+use Rattle.plan.specs.Attempt.{own_weighed, state_weighed, listed_weighed}
 use Rattle.plan.proofs.Laws.Weighing.{listed-not}
 use Rattle.attempting.proofs.all_weighed.Goals as goal
 
-pub loop-q-init : goal.loop-q-init
-loop-q-init c = (omega arith, all_none _)
-
-pub returns-then-not-listed_weighed : goal.returns-then-not-listed_weighed
-returns-then-not-listed_weighed c =
-    let e = c.members_end-end.ensures.0 in
-    sym (all-stop 16 _ c.loop-q.q (omega (arith, c.loop-q-test.true, e)) (failed _ _ (c.listed_weighed.ensures _ refl) c.if-not-listed_weighed.true-raw))
-
-pub loop-q-preserved : goal.loop-q-preserved
-loop-q-preserved c = (omega arith, all_more _ _ c.loop-q.invariant.1 (passed _ _ (c.listed_weighed.ensures _ refl) c.if-not-listed_weighed.false-raw))
-
 pub returns : goal.returns
+unfolding listed_weighed
 returns c =
-    let l = c.loop-q in
-    let e = c.members_end-end.ensures.1 in
-    sym (all_of 16 _ (λ k h. ⊎_elim (λ a. all-at _ _ l.invariant.1 k a) (λ b. sym (listed-not _ _ _ _ k (e k (omega (arith, c.loop-q-test.false))))) (lt-or-ge k l.q)))
+    let m = c.args.m in
+    let r = c.args.rec.now in
+    let top = c.args.top in
+    let states = c.args.held.now.of in
+    let end = c.members_end.result in
+    all_from_yields_List (λ p. not (has m p.0) || cond (eqb p.0 (own r)) (own_weighed m r top) (state_weighed m r top p.1)) _ _ c.all.result c.all.ensures.ran
+    (YieldsList-from_enumerate (YieldsList-from_slice (take end states) (grind arith)) (cc)) (λ x b q k. search (rules, tests))
+    ∙ all-enumerate _ _ (take end states) absent end (length-take-le end states (omega arith)) (λ q h. rw (get_or-take end states q absent h))
+    ∙ all-short _ (listed_weighed m c.args.held.now r top) end 16 (omega arith) (λ q h. refl) (λ q g h. sym (listed-not m c.args.held.now r top q (c.members_end.ensures.1 q g)))

@@ -1,5 +1,5 @@
 -- Before turn q both are the highest of the heads before q, and no head from the end on is a member.
-use Prim.Native.Nat.{◌≤◌, ◌-◌, max}
+use Prim.Native.Nat.{max}
 use mathlib.Core.Path.{◌≡◌}
 use mathlib.Core.Bool.{cond}
 use lib.Dec.{ltb}
@@ -9,7 +9,4 @@ use Rattle.plan.specs.Attempt.{number_of, primary_of}
 use Rattle.attempting.proofs.highest_among.Given as goal
 
 abbrev pub invariant-loop-q : goal.invariant-loop-q
-invariant-loop-q l = (l.q ≤ l.end) × (l.n ≡ fold_below l.q (λ k x. max x (number_of l.m l.held l.rec k)) 0) × (l.w ≡ fold_below l.q (λ k v. cond (ltb (rank v) (rank (primary_of l.m l.held l.rec k))) (primary_of l.m l.held l.rec k) v) 0)
-
-abbrev pub decreases-loop-q : goal.decreases-loop-q
-decreases-loop-q l = l.end - l.q
+invariant-loop-q l = (l.n ≡ fold_below l.q (λ k x. max x (number_of l.m l.held l.rec k)) 0) × (l.w ≡ fold_below l.q (λ k v. cond (ltb (rank v) (rank (primary_of l.m l.held l.rec k))) (primary_of l.m l.held l.rec k) v) 0)

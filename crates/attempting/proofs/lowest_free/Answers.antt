@@ -1,23 +1,29 @@
--- Before turn i no place before i is free, so the first free one found is the lowest.
-use mathlib.Core.Path.{sym, ◌∙◌}
+-- The first of the sixteen places that is free is the lowest.
+use mathlib.Core.Path.{◌≡◌, ap}
+use mathlib.Core.Bool.{Bool, cond}
+use Prim.Native.Nat.{ℕ, ◌<◌}
 use native.Mathlib.Omega.{arith}
-use native.Mathlib.Nat.{not-suc-le-zero}
-use borrow.Author.Tests.{eq-eqb, ne_eqb}
-use Rattle.loops.proofs.Laws.Order.{each-suc}
-use Rattle.loops.proofs.Laws.First.{first-is, first-none}
+use lib.Dec.{eqb, ltb}
+use borrow.Author.Tests.{ltb-true, ltb-false}
+use Rattle.std.proofs.Common.{rules, tests, MatchOption, Some, None}
+use Rattle.std.proofs.lemmas.Iterator.{YieldsList-from_slice}
+use Rattle.std.proofs.lemmas.Iterator.Search.{position_from_yields_List}
+use Rattle.loops.specs.Below.{first_below}
+use Rattle.loops.proofs.Laws.Truth.{cond-elim}
+use Rattle.loops.proofs.Laws.First.{first-le}
+use Rattle.loops.proofs.Laws.Chains.{first-chain}
+use Rattle.record.specs.Layout.{places}
+use Rattle.record.proofs.Laws.Words.{length-places, place-in}
 use Rattle.plan.specs.Attempt.{lowest_free}
 use Rattle.attempting.proofs.lowest_free.Goals as goal
 
-pub loop-i-init : goal.loop-i-init
-loop-i-init c = (omega arith, λ j h. absurd (not-suc-le-zero h))
-
-pub returns-then-place_at-eq0 : goal.returns-then-place_at-eq0
-unfolding lowest_free
-returns-then-place_at-eq0 c = sym (first-is 16 _ _ c.loop-i-test.true (eq-eqb _ 0 (sym c.place_at.ensures ∙ c.if-place_at-eq0.true)) c.loop-i.invariant.1)
-
-pub loop-i-preserved : goal.loop-i-preserved
-loop-i-preserved c = (omega arith, λ j h. each-suc _ c.loop-i.invariant.1 (ne_eqb _ 0 (λ z. c.if-place_at-eq0.false (c.place_at.ensures ∙ z))) j (omega arith))
+found : {k : ℕ} (p : ℕ → Bool) → k ≡ first_below 16 p → MatchOption (cond (ltb k 16) (Some k) None) (first_below 16 p ≡ 16) (λ i. (i ≡ first_below 16 p) × (i < 16))
+found {k} p e = cond-elim (λ o. MatchOption o (first_below 16 p ≡ 16) (λ i. (i ≡ first_below 16 p) × (i < 16))) (ltb k 16) _ _ (λ t. (e, ltb-true k 16 t)) (λ f. omega (arith, first-le 16 p, ltb-false k 16 f))
 
 pub returns : goal.returns
 unfolding lowest_free
-returns c = sym (first-none 16 _ (λ j h. c.loop-i.invariant.1 j (omega (arith, c.loop-i-test.false))))
+returns c =
+    let r = c.args.rec.now in
+    let free : ℕ → Bool = λ w. eqb w 0 in
+    let at = position_from_yields_List free _ _ c.position.result c.position.ensures.ran (YieldsList-from_slice (places r) cc) (λ x b q k. search (rules, tests)) in
+    rw (at, length-places r) (found _ (first-chain free _ (places r) 0 16 (length-places r) (λ i h. ap free (place-in r i h))))

@@ -1,23 +1,17 @@
--- Before turn i the places before i pass; the first that fails decides.
-use mathlib.Core.Path.{sym, ap, ◌∙◌}
-use native.Mathlib.Omega.{arith}
-use Rattle.loops.proofs.Laws.Truth.{failed, passed}
-use Rattle.loops.proofs.Laws.Tests.{all_none, all_more, all-stop, all_end}
+-- The chain goes over the sixteen places.
+use mathlib.Core.Path.{ap, ◌∙◌}
+use Rattle.std.proofs.Common.{rules, tests}
+use Rattle.std.proofs.lemmas.Iterator.{YieldsList-from_slice}
+use Rattle.std.proofs.lemmas.Iterator.Search.{all_from_yields_List}
+use Rattle.loops.proofs.Laws.Chains.{all-chain}
+use Rattle.record.specs.Layout.{places}
+use Rattle.record.proofs.Laws.Words.{length-places, place-in}
 use Rattle.plan.specs.Attempt.{weighed, own_weighed}
 use Rattle.attempting.proofs.own_weighed.Goals as goal
 
-pub loop-i-init : goal.loop-i-init
-loop-i-init c = (omega arith, all_none _)
-
-pub returns-then-not-weighed : goal.returns-then-not-weighed
-unfolding own_weighed
-returns-then-not-weighed c =
-    sym (all-stop 16 _ _ c.loop-i-test.true (failed _ _ (c.weighed.ensures ∙ ap (weighed _ _ _) c.place_at-w.ensures) c.if-not-weighed.true-raw))
-
-pub loop-i-preserved : goal.loop-i-preserved
-loop-i-preserved c =
-    (omega arith, all_more _ _ c.loop-i.invariant.1 (passed _ _ (c.weighed.ensures ∙ ap (weighed _ _ _) c.place_at-w.ensures) c.if-not-weighed.false-raw))
-
 pub returns : goal.returns
 unfolding own_weighed
-returns c = let l = c.loop-i in sym l.invariant.1 ∙ all_end _ _ _ l.invariant.0 c.loop-i-test.false
+returns c =
+    let r = c.args.rec.now in
+    all_from_yields_List (weighed c.args.m r c.args.top) _ _ c.all.result c.all.ensures.ran (YieldsList-from_slice (places r) cc) (λ x b q k. search (rules, tests))
+    ∙ all-chain _ _ (places r) 0 16 (length-places r) (λ i h. ap (weighed c.args.m r c.args.top) (place-in r i h))
