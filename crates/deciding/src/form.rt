@@ -1,5 +1,5 @@
 // Form: the session of the view becomes last primary.
-ghost use Rattle.std.specs.Prelude.{◌≡◌, not, [], ◌∷◌, ◌<◌, eqb, length};
+ghost use Rattle.std.specs.Prelude.{◌≡◌, not, [], ◌∷◌, ◌<◌, eqb};
 ghost use Rattle.loops.specs.Below.{table};
 ghost use Rattle.store.specs.Desk.{desk};
 ghost use Rattle.store.specs.Program.{exec};
@@ -10,27 +10,23 @@ ghost use Rattle.plan.specs.Form.{form_step};
 use changes::take_over;
 use group::Group;
 use group::words::session_of;
-use record::layout::{number, place_at};
+use record::layout::{Record, number, place_at};
+use std::array;
 use store::Pen;
 
 // Which places are used.
-fn all_used(rec: &[u64]) -> [bool; Group::PLACES]
-    requires { length rec.now ≡ 52 }
+fn all_used(rec: &Record) -> [bool; Group::PLACES]
     ensures { result ≡ table 16 (λ i. not (eqb (place_at rec.now i) 0)) }
 {
-    let mut all = [false; Group::PLACES];
-    for i in 0..Group::PLACES {
-        all[i] = place_at(rec, i) != 0;
-    }
-    all
+    array::from_fn(|i| place_at(rec, i) != 0)
 }
 
 // Form's stores, for the members m of the view.
-pub fn form_stores(rec: &mut [u64], pen: Pen, m: u16) -> Pen
-    requires { (length rec.old ≡ 52) × (number_of rec.old < 4294967296) }
+pub fn form_stores(rec: &mut Record, pen: Pen, m: u16) -> Pen
+    requires { number_of rec.old < 4294967296 }
     ensures { desk rec.new result ≡ exec (form_step m ∷ []) (desk rec.old pen) }
 {
     let w = session_of(number(rec), m);
     let cleared = all_used(rec);
-    take_over(rec, pen, w, false, cleared)
+    take_over(rec, pen, w, false, &cleared)
 }

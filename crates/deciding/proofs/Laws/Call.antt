@@ -9,10 +9,11 @@ use lib.Dec.{ltb}
 use lib.ListN.{get_or, length}
 use Rattle.loops.specs.Below.{table}
 use Rattle.loops.proofs.Laws.Truth.{passes-or-fails, not-both}
+use Rattle.std.specs.Prelude.{Ok}
 use Rattle.group.specs.Answers.{said}
 use Rattle.group.specs.Words.{rank, highest_of}
 use Rattle.store.specs.declared.Pen.{Pen}
-use Rattle.store.specs.Desk.{Desk, desk, run}
+use Rattle.store.specs.Desk.{Desk, desk, is_cut, run}
 use Rattle.store.specs.Program.{step_by, exec, script, after, up_to}
 use Rattle.store.proofs.Laws.Script.{run-cut, run-uncut}
 use Rattle.store.proofs.Laws.Program.{exec-run, exec-append, exec-one}
@@ -52,19 +53,19 @@ module _ (m : ℕ) (held : Held) (r : List ℕ) (pen : Pen) where
 
   module _ {r₁ : List ℕ} {p₁ : Pen} (a : desk r₁ p₁ ≡ exec (learning m held) (desk r pen)) where
     -- a pen that is cut stays cut
-    uncut : {r₂ : List ℕ} {p₂ : Pen} → desk r₂ p₂ ≡ step_by (attempt_step m held) (desk r₁ p₁) → p₂.cut ≡ false → p₁.cut ≡ false
+    uncut : {r₂ : List ℕ} {p₂ : Pen} → desk r₂ p₂ ≡ step_by (attempt_step m held) (desk r₁ p₁) → is_cut p₂ ≡ false → is_cut p₁ ≡ false
     unfolding step_by
     uncut {p₂ = p₂} b e =
-        ⊎_elim (λ t. absurd (not-both p₂.cut (ap (λ (d : Desk). d.pen.cut) (b ∙ run-cut (attempt_step m held r₁) (desk r₁ p₁) t) ∙ t) e)) (λ f. f)
-        (passes-or-fails p₁.cut)
+        ⊎_elim (λ t. absurd (not-both (is_cut p₂) (ap (λ (d : Desk). is_cut d.pen) (b ∙ run-cut (attempt_step m held r₁) (desk r₁ p₁) t) ∙ t) e)) (λ f. f)
+        (passes-or-fails (is_cut p₁))
 
-    learned : p₁.cut ≡ false → r₁ ≡ after_c m held r
+    learned : is_cut p₁ ≡ false → r₁ ≡ after_c m held r
     unfolding after_c after
     learned e =
         let c = a ∙ exec-run (learning m held) (desk r pen) in
-        ap (λ (d : Desk). d.rec) c ∙ run-uncut (script (learning m held) r) (desk r pen) (sym (ap (λ (d : Desk). d.pen.cut) c) ∙ e)
+        ap (λ (d : Desk). d.rec) c ∙ run-uncut (script (learning m held) r) (desk r pen) (sym (ap (λ (d : Desk). is_cut d.pen) c) ∙ e)
 
-    pub decide-chain : {r₂ : List ℕ} (x : Decided) → desk r₂ x.pen ≡ step_by (attempt_step m held) (desk r₁ p₁) → said x.answer ≡ decision m held r₁
+    pub decide-chain : {r₂ : List ℕ} (x : Decided) → desk r₂ x.pen ≡ step_by (attempt_step m held) (desk r₁ p₁) → said (Ok x.answer) ≡ decision m held r₁
         → Decides m held r pen r₂ x
     unfolding decide_program decide_answer
     decide-chain x b s = record {
