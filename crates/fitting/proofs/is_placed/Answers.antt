@@ -1,14 +1,16 @@
--- The loop has looked at the places passed.
-use mathlib.Core.Path.{sym, ◌∙◌}
-use native.Mathlib.Omega.{arith}
-use Rattle.loops.proofs.Laws.Tests.{any_none, any_next, any-end}
+-- The sixteen places are looked at.
+use mathlib.Core.Path.{◌≡◌, ap, ◌∙◌}
+use lib.Dec.{eqb}
+use Rattle.std.proofs.Common.{ℕ, Bool, rules}
+use Rattle.std.specs.List.{list_any}
+use Rattle.loops.proofs.Laws.Chains.{any-chain}
+use Rattle.record.specs.Layout.{places}
+use Rattle.record.proofs.Laws.Words.{length-places, place-in}
 use Rattle.fitting.proofs.is_placed.Goals as goal
 
-pub loop-i-init : goal.loop-i-init
-loop-i-init c = (omega arith, sym (any_none _))
-
-pub loop-i-preserved : goal.loop-i-preserved
-loop-i-preserved c = (omega arith, rw (any_next, c.loop-i.invariant.1, c.place_at.ensures))
-
 pub returns : goal.returns
-returns c = c.loop-i.invariant.1 ∙ any-end _ _ _ c.loop-i.invariant.0 c.loop-i-test.false
+returns c =
+    let r = c.args.rec.now in
+    let same : ℕ → Bool = λ place. eqb place c.args.w in
+    let e : c.contains.result ≡ list_any same (places r) = search rules in
+    e ∙ any-chain same _ (places r) 0 16 (length-places r) (λ i h. ap same (place-in r i h))
