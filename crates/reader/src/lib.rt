@@ -26,7 +26,7 @@ fn state_of(f: &[u8]) -> State
     requires { (count_of f.now ≤ 16) × (length f.now ≡ 113 + 6 * count_of f.now) }
     ensures { result ≡ state_of f.now }
 {
-    let number = four_at(f, 6) as u32;
+    let number = four_at(f, 6);
     let primary = six_at(f, 10);
     let formed = words_at(f, 16, Group::HEADS);
     let count = f[112] as usize;
@@ -52,7 +52,7 @@ fn judge_attempt(l: &[u8], f: &[u8]) -> Result<Frame, Rule>
         return Err(Rule::Head);
     }
     Ok(Frame::Attempt {
-        view: four_at(f, 1) as u32,
+        view: four_at(f, 1),
         sender: f[5],
     })
 }
@@ -79,7 +79,7 @@ fn judge_state(l: &[u8], f: &[u8]) -> Result<Frame, Rule>
     let sender = f[5];
     broken(&state, sender as usize)?;
     Ok(Frame::State {
-        view: four_at(f, 1) as u32,
+        view: four_at(f, 1),
         sender,
         state,
     })
@@ -124,6 +124,7 @@ pub fn judge(l: &[u8]) -> Result<Frame, Rule>
 }
 
 // The first line without its newline, and what comes after it; none if there is no newline.
+#[inline(always)]
 pub fn split_line(s: &[u8]) -> Option<(&[u8], &[u8])>
     ensures { MatchOption result (length s.now ≤ line_end s.now) (λ p. (line_end s.now < length s.now) × (p.0.now ≡ line_of s.now) × (p.1.now ≡ rest_of s.now)) }
 {

@@ -1,12 +1,18 @@
--- Numbers and sessions at a place of a frame, and sixteen words filled from the front. By the laws of `drop`, and by induction on the number of words.
+-- Numbers and sessions at a place of a frame, and sixteen words, each by its place. By the laws of `drop`, and by induction on the number of words.
 use mathlib.Core.Path.{◌≡◌, refl, sym, ap, ◌∙◌}
-use mathlib.Core.List.{List, [], ◌∷◌, ◌++◌, append_assoc}
-use Prim.Native.Nat.{ℕ, zero, suc, ◌+◌, ◌-◌, ◌*◌, ◌<◌}
-use native.Mathlib.Nat.{add-zero}
-use native.Mathlib.Numerals.{add-one}
+use mathlib.Core.List.{List}
+use mathlib.Core.Bool.{cond}
+use mathlib.Core.Logic.{⊎_elim}
+use Prim.Native.Nat.{ℕ, zero, suc, ◌+◌, ◌-◌, ◌*◌, ◌≤◌, ◌<◌}
+use native.Mathlib.Nat.{add-zero, not-suc-le-zero}
 use native.Mathlib.Omega.{arith}
-use lib.ListN.{length, get_or, drop, length-append, replicate, set}
-use lib.Seq.{get_or-drop, drop-drop, set-append_seam}
+use borrow.Author.Tests.{lt-ltb, le-ltb}
+use lib.ListN.{length, get_or, drop, length-append, replicate, length-replicate, get_or-append, get_or-replicate}
+use lib.Seq.{get_or-drop, drop-drop, get_or-append_right}
+use lib.Dec.{ltb}
+use Rattle.loops.specs.Below.{table}
+use Rattle.loops.proofs.Laws.Order.{lt-or-ge}
+use Rattle.loops.proofs.Laws.Lists.{table_is}
 use Rattle.state.specs.Values.{padded}
 use Rattle.lines.specs.Frame.{two, four, six, words}
 
@@ -28,34 +34,35 @@ pub six-drop : (f : List ℕ) (at : ℕ) → six (drop at f) ≡ four (drop at f
 unfolding six
 six-drop f at = simp (drop-drop)
 
+pub six_bytes : (f : List ℕ) (at : ℕ)
+    → six (drop at f)
+    ≡ get_or f at 0 * 1099511627776 + get_or f (at + 1) 0 * 4294967296 + get_or f (at + 2) 0 * 16777216 + get_or f (at + 3) 0 * 65536 + get_or f (at + 4) 0 * 256 + get_or f (at + 5) 0
+six_bytes f at =
+    let e : at + 4 + 1 ≡ at + 5 = omega arith in
+    omega (arith, six-drop f at, four_bytes f at, rw e at (two-drop f (at + 4)))
+
 pub words-length : (n : ℕ) (f : List ℕ) → length (words n f) ≡ n
 unfolding words
 words-length zero f = refl
 words-length (suc n) f = ap suc (words-length n (drop 6 f))
 
-words_snoc : (n : ℕ) (f : List ℕ) → words (suc n) f ≡ words n f ++ (six (drop (n * 6) f) ∷ [])
+words-at : (n : ℕ) (f : List ℕ) (i : ℕ) → i < n → get_or (words n f) i 0 ≡ six (drop (i * 6) f)
 unfolding words
-words_snoc zero f = refl
-words_snoc (suc n) f =
-    let e : 6 + n * 6 ≡ suc n * 6 = omega arith in
-    ap (λ (l : List ℕ). six f ∷ l) (words_snoc n (drop 6 f) ∙ rw (drop-drop (n * 6) 6 f, e))
+words-at zero f i h = absurd (not-suc-le-zero h)
+words-at (suc n) f zero h = refl
+words-at (suc n) f (suc i) h =
+    let e : 6 + i * 6 ≡ suc i * 6 = omega arith in
+    words-at n (drop 6 f) i (omega arith) ∙ rw (drop-drop (i * 6) 6 f, e)
 
--- ---- filling sixteen words from the front
-
-padded-more : (ws : List ℕ) (v : ℕ) → length ws < 16 → set (padded ws) (length ws) v ≡ padded (ws ++ (v ∷ []))
+-- sixteen words, each by its place
+pub table-padded : (n : ℕ) (f : List ℕ) → n ≤ 16 → table 16 (λ i. cond (ltb i n) (six (drop (i * 6) f)) 0) ≡ padded (words n f)
 unfolding padded
-padded-more ws v h =
-    let e : 16 - length ws ≡ suc (16 - (length ws + 1)) = omega arith in
-    let l : length (ws ++ (v ∷ [])) ≡ length ws + 1 = length-append ws (v ∷ []) in
-    rw (e, l) (set-append_seam ws 0 (replicate (16 - (length ws + 1)) 0) v ∙ sym (append_assoc ws (v ∷ []) (replicate (16 - (length ws + 1)) 0)))
-
--- none yet, and one more
-pub padded-none : (f : List ℕ) → replicate 16 0 ≡ padded (words 0 f)
-unfolding padded words
-padded-none f = refl
-
-pub padded-words : (i : ℕ) (f : List ℕ) (v : ℕ) → i < 16 → v ≡ six (drop (i * 6) f) → set (padded (words i f)) i v ≡ padded (words (i + 1) f)
-padded-words i f v h e =
-    ap (λ (k : ℕ). set (padded (words i f)) k v) (sym (words-length i f))
-    ∙ padded-more (words i f) v (omega (arith, words-length i f))
-    ∙ ap padded (ap (λ (x : ℕ). words i f ++ (x ∷ [])) e ∙ sym (words_snoc i f) ∙ ap (λ (k : ℕ). words k f) (sym (add-one i)))
+table-padded n f h =
+    let l = words-length n f in
+    let zeros : List ℕ = replicate (16 - length (words n f)) 0 in
+    sym (table_is 16 (λ i. cond (ltb i n) (six (drop (i * 6) f)) 0) 0 (padded (words n f)) (omega (arith, length-append (words n f) zeros, length-replicate {A = ℕ} (16 - length (words n f)) 0))
+    (λ i k.
+    ⊎_elim
+    (λ b. get_or-append (words n f) zeros 0 i (omega arith) ∙ words-at n f i b ∙ rw (lt-ltb i n b))
+    (λ g. get_or-append_right (words n f) zeros i 0 (omega arith) ∙ get_or-replicate (16 - length (words n f)) (i - length (words n f)) 0 0 (omega arith) ∙ rw (le-ltb i n g))
+    (lt-or-ge i n)))

@@ -4,4 +4,4 @@ use Rattle.reader.proofs.head_ok.Goals as goal
 
 pub returns : goal.returns
 unfolding rule3 view_of sender_of
-returns c = rw c.four_at.ensures.0
+returns c = rw c.four_at.ensures

@@ -34,4 +34,4 @@ bounds-f-5 c = omega (arith, half (goal.at.bounds-f-5 c).Start)
 pub returns : goal.returns
 unfolding view_of sender_of
 returns c =
-    rw (c.four_at.ensures.0, c.requires.2) (sym (attempt-kept _ c.requires.0 c.requires.1 c.if-l-ne12.false (passed _ _ (c.head_ok.ensures ∙ ap rule3 c.requires.2) c.if-not-head_ok.false-raw)))
+    rw (c.four_at.ensures, c.requires.2) (sym (attempt-kept _ c.requires.0 c.requires.1 c.if-l-ne12.false (passed _ _ (c.head_ok.ensures ∙ ap rule3 c.requires.2) c.if-not-head_ok.false-raw)))

@@ -110,4 +110,4 @@ four_at-requires c = omega (arith, half (goal.at.four_at-requires c).Start)
 pub returns : goal.returns
 unfolding view_of sender_of
 returns c =
-    rw (c.four_at.ensures.0, c.state_of-state.ensures, c.requires.2) (sym (state-kept _ c.requires.0 c.requires.1 (fits (goal.at.returns c).Else-l-count) (heads (goal.at.returns c).Else-not-head_ok) (sym (later (goal.at.returns c).Start _ c.state_of-state.ensures) ∙ sym (c.in_ok-broken.ensures))))
+    rw (c.four_at.ensures, c.state_of-state.ensures, c.requires.2) (sym (state-kept _ c.requires.0 c.requires.1 (fits (goal.at.returns c).Else-l-count) (heads (goal.at.returns c).Else-not-head_ok) (sym (later (goal.at.returns c).Start _ c.state_of-state.ensures) ∙ sym (c.in_ok-broken.ensures))))

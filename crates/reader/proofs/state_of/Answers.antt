@@ -13,4 +13,4 @@ words_at-places-requires c = omega arith
 pub returns : goal.returns
 unfolding state_of count_of
 returns c =
-    rw (c.words_at-places.ensures, c.words_at-formed.ensures, c.six_at-primary.ensures.0, c.four_at-number.ensures.0)
+    rw (c.words_at-places.ensures, c.words_at-formed.ensures, c.six_at-primary.ensures, c.four_at-number.ensures)

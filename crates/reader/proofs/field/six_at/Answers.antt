@@ -1,7 +1,7 @@
--- A number below 2^32 and one below 65536 make one below 2^48.
-use Rattle.lines.proofs.Laws.Frame.{six-drop}
-use native.Mathlib.Omega.{arith}
+-- The bytes make the number byte by byte.
+use Rattle.std.proofs.Common.{arith}
+use Rattle.lines.proofs.Laws.Frame.{six_bytes}
 use Rattle.reader.proofs.field.six_at.Goals as goal
 
 pub returns : goal.returns
-returns c = omega (arith, six-drop c.args.f.now c.args.at)
+returns c = omega (arith, c.from_be_bytes.ensures, six_bytes c.args.f.now c.args.at)

@@ -1,21 +1,12 @@
--- Before turn i the first i words are there, and zeros after them.
-use Rattle.lines.proofs.Laws.Frame.{padded-none, padded-words}
+-- Sixteen words, each by its place: the session there, and zero past the last.
+use Rattle.std.proofs.Common.{◌∙◌, cond, ltb, ◌*◌, ◌+◌, drop, drop-drop, rules}
+use Rattle.loops.proofs.Laws.Chains.{from_fn-table}
 use Rattle.lines.specs.Frame.{six}
-use lib.Seq.{drop-drop}
-use mathlib.Core.Path.{◌≡◌, ◌∙◌, sym, ap}
-use borrow.Author.Rules.{rules}
-use native.Mathlib.Omega.{arith}
+use Rattle.lines.proofs.Laws.Frame.{table-padded}
 use Rattle.reader.proofs.field.words_at.Goals as goal
-
-pub loop-i-init : goal.loop-i-init
-loop-i-init c = (search rules, padded-none _)
-
-pub loop-i-preserved : goal.loop-i-preserved
-loop-i-preserved c =
-    let a = c.args in
-    (search rules, rw c.loop-i.invariant.1 (padded-words c.loop-i.i _ _ (omega arith) (c.six_at.ensures.0 ∙ ap six (sym (drop-drop _ a.at _)))))
 
 pub returns : goal.returns
 returns c =
-    let e : c.loop-i.i ≡ c.args.n = omega arith in
-    c.loop-i.invariant.1 ∙ rw e
+    let a = c.args in
+    from_fn-table _ (λ i. cond (ltb i a.n) (six (drop (a.at + i * 6) a.f.now)) 0) 0 16 c.from_fn.ensures.items (λ k r q e. search rules)
+    ∙ simp drop-drop at (table-padded a.n (drop a.at a.f.now) c.requires.0)
