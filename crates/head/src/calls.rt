@@ -1,4 +1,5 @@
-// The calls, by value on the session: refusals first, then the stores or the line, then the next session.
+// The calls, by value on the session: refusals first, then the stores or the line, then the next session. A record that is not of 52 words is refused as one
+// that is not whole.
 ghost use Rattle.std.specs.Prelude.{◌≡◌, ◌<◌};
 ghost use Rattle.group.specs.Answers.{said, cut};
 ghost use Rattle.head.specs.Calls.{ended, enter_spec, hear_state_spec, hear_attempt_spec, decide_spec, form_spec, wrote, write_state_spec, write_attempt_spec};
@@ -9,13 +10,10 @@ use crate::session::{Next, Session};
 use deciding::{decide_stores, form_stores};
 use fitting::stage::{FORMED, stage_after};
 use group::{Answer, Refusal};
-use lines::Line;
+use lines::Frame;
 use reader::read_whole;
-use record::layout::{own, put_entered};
-use refusals::{
-    Check, attempt_check, decide_check, enter_check, form_check, state_check, write_attempt_check,
-    write_state_check,
-};
+use record::layout::{Field, Record, own, put};
+use refusals::{decide_check, enter_check, form_check, write_attempt_check, write_state_check};
 use store::Pen;
 use telling::tell;
 use writer::{write_attempt, write_state};
@@ -27,208 +25,166 @@ fn cut_off(own: usize) -> Next
     ensures { (said result.answer ≡ cut) × (result.session ≡ no_session) }
 {
     Next {
-        answer: Answer::Cut,
+        answer: Ok(Answer::Cut),
         session: Session::none_of(own),
     }
 }
 
 impl Session {
+    #[tactic(auto, using(crate::proofs::Laws::Calls::some_number, crate::proofs::Laws::Fits::usable_length), unfolding(crate::specs::Calls::enter_spec, crate::specs::Refusals::enter_refusal, crate::specs::Calls::stores, crate::specs::Calls::under, crate::specs::Calls::entry_step))]
     pub fn enter(self, rec: &mut [u64], view: u32, heads: u16, stores: u64) -> Next
         ensures { ended rec.new result ≡ enter_spec self rec.old view heads stores }
     {
-        let fit = usable(self, rec);
-        let check = enter_check(fit, rec, view, heads);
-        if let Check::Refused(why) = check {
-            return Next {
-                answer: Answer::Refused(why),
-                session: self,
-            };
+        let Some(rec): Option<&mut Record> = rec.as_mut_array() else {
+            return self.refused(Refusal::Record);
+        };
+        let fit = usable(&self, rec);
+        if let Err(why) = enter_check(fit, rec, view, heads) {
+            return self.refused(why);
         }
         let me = own(rec);
-        let pen = Pen {
-            left: stores,
-            cut: false,
-        };
-        let after = put_entered(rec, pen, view as u64);
-        if after.cut {
+        let pen = put(rec, Pen::Left(stores), Field::Entered, u64::from(view));
+        if let Pen::Cut = pen {
             return cut_off(me);
         }
         Next {
-            answer: Answer::Entered,
+            answer: Ok(Answer::Entered),
             session: Session::opened(me, view, heads),
         }
     }
 
+    #[tactic(auto, using(crate::proofs::Laws::Calls::some_number, crate::proofs::Laws::Fits::usable_length), unfolding(crate::specs::Calls::hear_state_spec, crate::specs::Refusals::hear_state_refusal, crate::specs::Refusals::state_refusal))]
     pub fn hear_state(self, rec: &[u64], line: &[u8]) -> Next
         ensures { ended rec.now result ≡ hear_state_spec self rec.now line.now }
     {
-        if !usable(self, rec) {
-            return Next {
-                answer: Answer::Refused(Refusal::Record),
-                session: self,
-            };
-        }
-        let read = read_whole(line);
-        let what = read.line;
-        let Line::StateLine { view, sender } = what else {
-            return Next {
-                answer: Answer::Refused(Refusal::Line),
-                session: self,
-            };
+        let Some(rec): Option<&Record> = rec.as_array() else {
+            return self.refused(Refusal::Record);
         };
-        let check = state_check(
-            self.stage,
-            self.view,
-            self.members,
-            self.states,
-            own(rec),
-            view,
-            sender,
-        );
-        if let Check::Refused(why) = check {
-            return Next {
-                answer: Answer::Refused(why),
-                session: self,
-            };
+        if !usable(&self, rec) {
+            return self.refused(Refusal::Record);
         }
-        let st = read.state;
+        let Ok(
+            Frame::State {
+                view,
+                sender,
+                state,
+            },
+        ) = read_whole(line)
+        else {
+            return self.refused(Refusal::Line);
+        };
+        let listener = self.listener(self.states, own(rec));
+        if let Err(why) = listener.state_check(view, sender) {
+            return self.refused(why);
+        }
         Next {
-            answer: Answer::Heard,
-            session: self.with_state(sender, st),
+            answer: Ok(Answer::Heard),
+            session: self.with_state(sender, state),
         }
     }
 
+    #[tactic(auto, using(crate::proofs::Laws::Calls::some_number, crate::proofs::Laws::Fits::usable_length), unfolding(crate::specs::Calls::hear_attempt_spec, crate::specs::Refusals::hear_attempt_refusal, crate::specs::Refusals::attempt_refusal))]
     pub fn hear_attempt(self, rec: &[u64], line: &[u8]) -> Next
         ensures { ended rec.now result ≡ hear_attempt_spec self rec.now line.now }
     {
-        if !usable(self, rec) {
-            return Next {
-                answer: Answer::Refused(Refusal::Record),
-                session: self,
-            };
-        }
-        let read = read_whole(line);
-        let what = read.line;
-        let Line::AttemptLine { view, sender } = what else {
-            return Next {
-                answer: Answer::Refused(Refusal::Line),
-                session: self,
-            };
+        let Some(rec): Option<&Record> = rec.as_array() else {
+            return self.refused(Refusal::Record);
         };
-        let check = attempt_check(
-            self.stage,
-            self.view,
-            self.members,
-            self.attempts,
-            own(rec),
-            view,
-            sender,
-        );
-        if let Check::Refused(why) = check {
-            return Next {
-                answer: Answer::Refused(why),
-                session: self,
-            };
+        if !usable(&self, rec) {
+            return self.refused(Refusal::Record);
+        }
+        let Ok(Frame::Attempt { view, sender }) = read_whole(line) else {
+            return self.refused(Refusal::Line);
+        };
+        let listener = self.listener(self.attempts, own(rec));
+        if let Err(why) = listener.attempt_check(view, sender) {
+            return self.refused(why);
         }
         Next {
-            answer: Answer::Heard,
+            answer: Ok(Answer::Heard),
             session: self.with_attempt(sender),
         }
     }
 
+    #[tactic(auto, using(crate::proofs::Laws::Calls::some_number, crate::proofs::Laws::Fits::usable_length), unfolding(crate::specs::Calls::decide_spec, crate::specs::Refusals::decide_refusal, crate::specs::Calls::stores, crate::specs::Calls::under))]
     pub fn decide(self, rec: &mut [u64], stores: u64) -> Next
         ensures { ended rec.new result ≡ decide_spec self rec.old stores }
     {
-        let fit = usable(self, rec);
-        let check = decide_check(fit, self.stage, self.members, self.states);
-        if let Check::Refused(why) = check {
-            return Next {
-                answer: Answer::Refused(why),
-                session: self,
-            };
+        let Some(rec): Option<&mut Record> = rec.as_mut_array() else {
+            return self.refused(Refusal::Record);
+        };
+        let fit = usable(&self, rec);
+        if let Err(why) = decide_check(fit, self.stage, self.members, self.states) {
+            return self.refused(why);
         }
         let me = own(rec);
-        let held = self.held;
-        let pen = Pen {
-            left: stores,
-            cut: false,
-        };
-        let decided = decide_stores(rec, pen, self.members, held);
-        let answer = decided.answer;
-        let after = decided.pen;
-        let stage = stage_after(answer);
-        if after.cut {
+        let decided = decide_stores(rec, Pen::Left(stores), self.members, &self.held);
+        if let Pen::Cut = decided.pen {
             let none = cut_off(me);
             return none;
         }
+        let answer = Ok(decided.answer);
         Next {
-            answer: answer,
-            session: self.at_stage(stage),
+            answer,
+            session: self.at_stage(stage_after(answer)),
         }
     }
 
+    #[tactic(auto, using(crate::proofs::Laws::Calls::some_number, crate::proofs::Laws::Fits::usable_length), unfolding(crate::specs::Calls::form_spec, crate::specs::Refusals::form_refusal, crate::specs::Calls::stores, crate::specs::Calls::under))]
     pub fn form(self, rec: &mut [u64], stores: u64) -> Next
         ensures { ended rec.new result ≡ form_spec self rec.old stores }
     {
-        let fit = usable(self, rec);
-        let check = form_check(fit, self.stage, self.members, self.attempts);
-        if let Check::Refused(why) = check {
-            return Next {
-                answer: Answer::Refused(why),
-                session: self,
-            };
+        let Some(rec): Option<&mut Record> = rec.as_mut_array() else {
+            return self.refused(Refusal::Record);
+        };
+        let fit = usable(&self, rec);
+        if let Err(why) = form_check(fit, self.stage, self.members, self.attempts) {
+            return self.refused(why);
         }
         let me = own(rec);
-        let pen = Pen {
-            left: stores,
-            cut: false,
-        };
-        let after = form_stores(rec, pen, self.members);
-        if after.cut {
+        let pen = form_stores(rec, Pen::Left(stores), self.members);
+        if let Pen::Cut = pen {
             let none = cut_off(me);
             return none;
         }
         Next {
-            answer: Answer::Formed,
+            answer: Ok(Answer::Formed),
             session: self.at_stage(FORMED),
         }
     }
 
+    #[tactic(auto, using(crate::proofs::Laws::Calls::some_number, crate::proofs::Laws::Fits::usable_length), unfolding(crate::specs::Calls::write_state_spec, crate::specs::Refusals::write_state_refusal, crate::specs::Calls::writes))]
     pub fn write_state(self, rec: &[u64], out: &mut [u8]) -> Next
         ensures { wrote out.new result ≡ write_state_spec self rec.now out.old }
     {
-        let fit = usable(self, rec);
-        let check = write_state_check(fit, self.stage, out.len());
-        if let Check::Refused(why) = check {
-            return Next {
-                answer: Answer::Refused(why),
-                session: self,
-            };
+        let Some(rec): Option<&Record> = rec.as_array() else {
+            return self.refused(Refusal::Record);
+        };
+        let fit = usable(&self, rec);
+        if let Err(why) = write_state_check(fit, self.stage, out.len()) {
+            return self.refused(why);
         }
-        let st = tell(rec);
-        let me = own(rec) as u8;
-        let length = write_state(out, self.view, me, st);
+        let length = write_state(out, self.view, own(rec) as u8, tell(rec));
         Next {
-            answer: Answer::Written(length),
+            answer: Ok(Answer::Written(length)),
             session: self,
         }
     }
 
+    #[tactic(auto, using(crate::proofs::Laws::Calls::some_number, crate::proofs::Laws::Fits::usable_length), unfolding(crate::specs::Calls::write_attempt_spec, crate::specs::Refusals::write_attempt_refusal, crate::specs::Calls::writes))]
     pub fn write_attempt(self, rec: &[u64], out: &mut [u8]) -> Next
         ensures { wrote out.new result ≡ write_attempt_spec self rec.now out.old }
     {
-        let fit = usable(self, rec);
-        let check = write_attempt_check(fit, self.stage, out.len());
-        if let Check::Refused(why) = check {
-            return Next {
-                answer: Answer::Refused(why),
-                session: self,
-            };
+        let Some(rec): Option<&Record> = rec.as_array() else {
+            return self.refused(Refusal::Record);
+        };
+        let fit = usable(&self, rec);
+        if let Err(why) = write_attempt_check(fit, self.stage, out.len()) {
+            return self.refused(why);
         }
-        let me = own(rec) as u8;
-        let length = write_attempt(out, self.view, me);
+        let length = write_attempt(out, self.view, own(rec) as u8);
         Next {
-            answer: Answer::Written(length),
+            answer: Ok(Answer::Written(length)),
             session: self,
         }
     }

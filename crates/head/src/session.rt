@@ -1,11 +1,12 @@
 // The session: what a head has heard in one view. Each call takes it by value and hands the next one back.
 ghost use Rattle.std.specs.Prelude.{◌≡◌, ◌<◌};
-ghost use Rattle.group.specs.Heads.{only};
+ghost use Rattle.group.specs.Answers.{said, refused, refusal_number};
 ghost use Rattle.head.specs.Session.{no_session, opened, with_state, with_attempt, at_stage};
 
 use fitting::stage::{NONE, UNDECIDED};
-use group::Answer;
-use group::heads::with_head;
+use group::heads::{only, with_head};
+use group::{Answer, Refusal};
+use refusals::Listener;
 use state::{Held, State, no_state, nothing_held};
 
 // Its stage is a number, so that any bytes from outside are some session.
@@ -23,30 +24,22 @@ pub struct Session {
 // What a call hands back.
 #[derive(Clone, Copy)]
 pub struct Next {
-    pub answer: Answer,
+    pub answer: Result<Answer, Refusal>,
     pub session: Session,
 }
 
-// The set of one head.
-fn only(h: usize) -> u16
-    requires { h < 16 }
-    ensures { result ≡ only h }
-{
-    1u16 << h
-}
-
+#[tactic(auto, unfolding(crate::specs::Session::no_session, crate::specs::Session::opened, crate::specs::Session::with_state, crate::specs::Session::with_attempt, crate::specs::Session::at_stage))]
 impl Session {
     pub fn none() -> Session
         ensures { result ≡ no_session }
     {
-        let held = nothing_held();
         Session {
             stage: NONE,
             view: 0,
             members: 0,
             states: 0,
             attempts: 0,
-            held: held,
+            held: nothing_held(),
         }
     }
 
@@ -56,17 +49,9 @@ impl Session {
         requires { own < 16 }
         ensures { result ≡ no_session }
     {
-        let mut held = nothing_held();
-        let blank = no_state();
-        held.of[own] = blank;
-        Session {
-            stage: NONE,
-            view: 0,
-            members: 0,
-            states: 0,
-            attempts: 0,
-            held: held,
-        }
+        let mut none = Session::none();
+        none.held.of[own] = no_state();
+        none
     }
 
     // A session of own head, just entered.
@@ -74,48 +59,62 @@ impl Session {
         requires { own < 16 }
         ensures { result ≡ opened own view members }
     {
-        let held = nothing_held();
-        let me = only(own);
+        let me = only(own as u8);
         Session {
             stage: UNDECIDED,
-            view: view,
-            members: members,
+            view,
+            members,
             states: me,
             attempts: me,
-            held: held,
+            held: nothing_held(),
         }
     }
 
-    pub fn with_state(self, sender: u8, st: State) -> Session
+    pub fn with_state(mut self, sender: u8, st: State) -> Session
         requires { sender < 16 }
         ensures { result ≡ with_state self sender st }
     {
-        let mut held = self.held;
-        held.of[sender as usize] = st;
-        Session {
-            stage: self.stage,
-            view: self.view,
-            members: self.members,
-            states: with_head(self.states, sender),
-            attempts: self.attempts,
-            held: held,
-        }
+        self.held.of[usize::from(sender)] = st;
+        self.states = with_head(self.states, sender);
+        self
     }
 
     pub fn with_attempt(self, sender: u8) -> Session
         requires { sender < 16 }
         ensures { result ≡ with_attempt self sender }
     {
-        let mut s = self;
-        s.attempts = with_head(s.attempts, sender);
-        s
+        Session {
+            attempts: with_head(self.attempts, sender),
+            ..self
+        }
     }
 
     pub fn at_stage(self, stage: u8) -> Session
         ensures { result ≡ at_stage self stage }
     {
-        let mut s = self;
-        s.stage = stage;
-        s
+        Session { stage, ..self }
+    }
+
+    // What a call that is refused hands back: the session as it was.
+    pub(crate) fn refused(self, why: Refusal) -> Next
+        ensures { (said result.answer ≡ refused (refusal_number why)) × (result.session ≡ self) }
+    {
+        Next {
+            answer: Err(why),
+            session: self,
+        }
+    }
+
+    // The session as a line is held against it, for own head and the members whose lines of its kind were heard.
+    pub(crate) fn listener(&self, heard: u16, own: usize) -> Listener
+        ensures { result ≡ record { stage = self.now.stage; view = self.now.view; members = self.now.members; heard = heard; own = own } }
+    {
+        Listener {
+            stage: self.stage,
+            view: self.view,
+            members: self.members,
+            heard,
+            own,
+        }
     }
 }

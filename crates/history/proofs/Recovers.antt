@@ -10,7 +10,7 @@ use lib.ListN.{length}
 use borrow.Author.Tests.{eqb-true, eq-eqb, le-ltb}
 use Rattle.loops.proofs.Laws.Truth.{cond-elim, and_both}
 use Rattle.group.specs.Answers.{Said, recovered, entered, formed, refused}
-use Rattle.store.specs.Desk.{Store, desk, budget, apply}
+use Rattle.store.specs.Desk.{Store, desk, budget, apply, is_cut}
 use Rattle.store.specs.Program.{Step, exec, script}
 use Rattle.store.specs.Changes.{Change, all_non_empty, all_stores, begun}
 use Rattle.store.proofs.Laws.Program.{exec-take}
@@ -55,7 +55,7 @@ nothing-begun k r = sym (ap (λ (a : List Store). apply a r) (none-begun k))
 -- cut or not, a call that stores leaves the desk's record
 stores_words : (fs : List Step) (r : List ℕ) (k : ℕ) (a : Said) (s : Session) → (stores fs r k a s).words ≡ (exec fs (desk r (budget k))).rec
 unfolding stores under
-stores_words fs r k a s = cond-elim (λ (o : Ended). o.words ≡ (exec fs (desk r (budget k))).rec) (exec fs (desk r (budget k))).pen.cut _ _ (λ e. refl) (λ e. refl)
+stores_words fs r k a s = cond-elim (λ (o : Ended). o.words ≡ (exec fs (desk r (budget k))).rec) (is_cut (exec fs (desk r (budget k))).pen) _ _ (λ e. refl) (λ e. refl)
 
 -- a call of document 01: refused, or the stores of its program, which are its changes
 by-refusal : (n : ℕ) (fs : List Step) (r : List ℕ) (k : ℕ) (a : Said) (s s' : Session) (cs : List Change)

@@ -2,7 +2,9 @@
 use mathlib.Core.Path.{◌≡◌, sym, ap, ap₂, ◌∙◌}
 use mathlib.Core.List.{List}
 use Prim.Native.Nat.{ℕ}
+use Rattle.std.specs.Prelude.{Result}
 use Rattle.group.specs.declared.answers.Answer.{Answer}
+use Rattle.group.specs.declared.answers.Refusal.{Refusal}
 use Rattle.group.proofs.Laws.Answers.{said-one}
 use Rattle.head.specs.declared.session.Session.{Session}
 use Rattle.head.specs.declared.session.Next.{Next}
@@ -10,7 +12,7 @@ use Rattle.head.specs.Calls.{Ended, ended, Wrote, wrote, enter_spec, hear_state_
 use Rattle.calls.specs.Statements.{enter, hear-state, hear-attempt, decide, form, write-state, write-attempt, Determined}
 
 one-next : (x y : Next) → x.answer ≡ y.answer → x.session ≡ y.session → x ≡ y
-one-next x y e f = ap₂ (λ (a : Answer) (s : Session). record { answer = a; session = s }) e f
+one-next x y e f = ap₂ (λ (a : Result Answer Refusal) (s : Session). record { answer = a; session = s }) e f
 
 one-ending : (e : Ended) (v w : List ℕ) (x y : Next) → ended v x ≡ e → ended w y ≡ e → (v ≡ w) × (x ≡ y)
 one-ending e v w x y a b =

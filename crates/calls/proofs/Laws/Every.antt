@@ -11,7 +11,7 @@ use lib.Seq.{take_all}
 use borrow.Author.Tests.{eqb-true}
 use Rattle.loops.proofs.Laws.Truth.{cond-elim, clash, passes-or-fails}
 use Rattle.group.specs.Answers.{Said, started, recovered, entered, heard, attempted, no-quorum, numbers-run-out, no_place, formed, cut, written, refused}
-use Rattle.store.specs.Desk.{Desk, Store, desk, budget, apply, stored}
+use Rattle.store.specs.Desk.{Desk, Store, desk, budget, apply, stored, is_cut}
 use Rattle.store.specs.Program.{Step, script, after, exec}
 use Rattle.store.specs.Changes.{Change, non_empty, all_non_empty, all_stores, step_stores}
 use Rattle.store.proofs.Laws.Script.{run-uncut}
@@ -83,11 +83,11 @@ decided-plain m held r =
 by-refusal : {A : Type 0} (P : A → Type 0) (n : ℕ) (done kept : A) → (n ≡ 0 → P done) → P kept → P (cond (eqb n 0) done kept)
 by-refusal P n done kept f g = cond-elim P (eqb n 0) done kept (λ e. f (eqb-true n 0 e)) (λ e. g)
 
-exec-uncut : (fs : List Step) (k : ℕ) (r : List ℕ) → (exec fs (desk r (budget k))).pen.cut ≡ false → (exec fs (desk r (budget k))).rec ≡ after fs r
+exec-uncut : (fs : List Step) (k : ℕ) (r : List ℕ) → is_cut (exec fs (desk r (budget k))).pen ≡ false → (exec fs (desk r (budget k))).rec ≡ after fs r
 unfolding after
 exec-uncut fs k r e =
     let same = exec-run fs (desk r (budget k)) in
-    ap (λ (d : Desk). d.rec) same ∙ run-uncut (script fs r) (desk r (budget k)) (sym (ap (λ (d : Desk). d.pen.cut) same) ∙ e)
+    ap (λ (d : Desk). d.rec) same ∙ run-uncut (script fs r) (desk r (budget k)) (sym (ap (λ (d : Desk). is_cut d.pen) same) ∙ e)
 
 module _ (program : List Step) (r : List ℕ) (k : ℕ) (answer : Said) (s : Session) where
   by-cut : (P : Ended → Type 0) → P (record { answer = cut; words = (exec program (desk r (budget k))).rec; session = no_session })
@@ -99,7 +99,7 @@ module _ (program : List Step) (r : List ℕ) (k : ℕ) (answer : Said) (s : Ses
 
   stores_words : (stores program r k answer s).words ≡ (exec program (desk r (budget k))).rec
   unfolding stores under
-  stores_words = cond-elim (λ (e : Ended). e.words ≡ (exec program (desk r (budget k))).rec) (exec program (desk r (budget k))).pen.cut _ _ (λ e. refl) (λ e. refl)
+  stores_words = cond-elim (λ (e : Ended). e.words ≡ (exec program (desk r (budget k))).rec) (is_cut (exec program (desk r (budget k))).pen) _ _ (λ e. refl) (λ e. refl)
 
 -- what holds of a call where it is refused, and where it is not, holds of the call
 module _ (P : Ended → Type 0) (s : Session) (r : List ℕ) where

@@ -49,8 +49,8 @@ pub make-usable : (s : Session) (r : List ℕ) → whole r ≡ true → fits s r
 unfolding usable
 make-usable s r e f = and_both (whole r) (fits s r) e f
 
-pub usable-length : (s : Session) (r : List ℕ) → usable s r ≡ true → length r ≡ 52
-usable-length s r e = whole_length r (usable-whole s r e)
+pub usable_length : (s : Session) (r : List ℕ) → usable s r ≡ true → length r ≡ 52
+usable_length s r e = whole_length r (usable-whole s r e)
 
 -- ---- a session that is not none
 

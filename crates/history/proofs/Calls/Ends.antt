@@ -9,7 +9,7 @@ use lib.ListN.{length, take}
 use borrow.Author.Tests.{eqb-true, ltb-true, ltb-false}
 use Rattle.loops.proofs.Laws.Truth.{cond-elim}
 use Rattle.group.specs.Answers.{Said, cut}
-use Rattle.store.specs.Desk.{Desk, desk, budget}
+use Rattle.store.specs.Desk.{Desk, desk, budget, is_cut}
 use Rattle.store.specs.Program.{Step, exec, script, after}
 use Rattle.store.proofs.Laws.Script.{run-uncut, apply-length}
 use Rattle.store.proofs.Laws.Program.{exec-run, exec-take, exec-cuts}
@@ -43,10 +43,10 @@ pub stores-elim {κ} : (P : Ended → Type κ) (fs : List Step) (r : List ℕ) (
 unfolding stores under after
 stores-elim P fs r k a s f g =
     let d = desk r (budget k) in
-    cond-elim P (exec fs d).pen.cut _ _ (λ e. f (ltb-true k (length (script fs r)) (sym (exec-cuts fs k r) ∙ e)))
+    cond-elim P (is_cut (exec fs d).pen) _ _ (λ e. f (ltb-true k (length (script fs r)) (sym (exec-cuts fs k r) ∙ e)))
     (λ e.
     subst (λ (x : List ℕ). P (record { answer = a; words = x; session = s }))
-    (sym (ap (λ (y : Desk). y.rec) (exec-run fs d) ∙ run-uncut (script fs r) d (ap (λ (y : Desk). y.pen.cut) (sym (exec-run fs d)) ∙ e)))
+    (sym (ap (λ (y : Desk). y.rec) (exec-run fs d) ∙ run-uncut (script fs r) d (ap (λ (y : Desk). is_cut y.pen) (sym (exec-run fs d)) ∙ e)))
     (g (ltb-false k (length (script fs r)) (sym (exec-cuts fs k r) ∙ e))))
 
 pub exec-long : (fs : List Step) (r : List ℕ) (k : ℕ) → length (exec fs (desk r (budget k))).rec ≡ length r

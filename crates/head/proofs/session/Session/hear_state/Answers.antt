@@ -1,40 +1,27 @@
--- The record and session are judged, then the line, then its view and sender; a line that reads has a sender below 16.
-use Rattle.head.proofs.Laws.Hearing.{state-judged, hear-state-line, state-kept, hear-state-record, hear-state-reads, hear-state-refused, hear-state-done}
-use mathlib.Core.Bool.{true}
+-- A line of the other kind, or one that does not read, is refused with 3; a line that reads has a sender below 16.
 use mathlib.Core.Path.{◌≡◌, sym, ap, ◌∙◌}
-use Rattle.loops.proofs.Laws.Truth.{failed, passed}
-use Rattle.lines.specs.Read.{StateLine, Read}
-use Rattle.lines.specs.Reading.{read_whole}
-use Rattle.group.specs.declared.answers.Refusal.TheVariants as refusal
-use Rattle.head.specs.Fits.{usable}
-use Rattle.refusals.specs.Refusals.{check_number}
-use Rattle.head.specs.Refusals.{of_state_line}
-use Rattle.head.proofs.Laws.Fits.{usable-length}
-use borrow.Enum.Refused.{opened}
-use Rattle.head.proofs.session.Session.hear_state.Goals.{Else-not-usable, In-StateLine}
+use native.Mathlib.Omega.{arith}
+use Rattle.lines.specs.Read.{Read, StateLine}
+use Rattle.lines.specs.Reading.{read_whole, read_of}
+use Rattle.head.specs.Refusals.{of_state_line, hear_state_refusal}
+use Rattle.head.specs.Calls.{hear_state_spec}
+use Rattle.head.proofs.Laws.Hearing.{state-kept, no-state-line}
 use Rattle.head.proofs.session.Session.hear_state.Goals as goal
+use Rattle.head.proofs.session.Session.hear_state.Goals.{in_default-read_whole-via-in-Ok+in_default, in_default-read_whole-via-in_default}
 
-usable_at : (c : Else-not-usable) → usable c.args.self c.args.rec.now ≡ true
-usable_at c = passed _ _ c.usable.ensures c.if-not-usable.false-raw
-
--- the line is of this kind
-kind_at : (c : In-StateLine) → (read_whole c.args.line.now).line ≡ StateLine c.in-StateLine.view c.in-StateLine.sender
-kind_at c = ap (λ (x : Read). x.line) (sym c.read_whole-read.ensures) ∙ c.in-StateLine.is
-
-pub returns-then-not-usable : goal.returns-then-not-usable
-returns-then-not-usable c = sym (hear-state-refused _ _ _ refusal.Record (sym (hear-state-record _ _ _ (failed _ _ c.usable.ensures c.if-not-usable.true-raw))))
-
-pub returns-in_default : goal.returns-in_default
-returns-in_default c = sym (hear-state-refused _ _ _ refusal.Line (sym (hear-state-line _ _ _ c.read_whole-read.result (usable_at (goal.at.returns-in_default c).Else-not-usable) c.read_whole-read.ensures (opened c.in_default.in_default-own.keys2))))
-
-pub own-requires : goal.own-requires
-own-requires c = usable-length _ _ (usable_at (goal.at.own-requires c).Else-not-usable)
-
-pub returns-in-Refused : goal.returns-in-Refused
-returns-in-Refused c = sym (hear-state-refused _ _ _ c.in-Refused.why (ap check_number (sym c.in-Refused.is) ∙ state-judged _ _ _ _ _ _ c.state_check-check.ensures c.own.ensures.0 ∙ sym (hear-state-reads _ _ _ (usable_at (goal.at.returns-in-Refused c).Else-not-usable) ∙ ap (of_state_line _ _) (kind_at (goal.at.returns-in-Refused c).In-StateLine))))
+pub returns-in_default-read_whole : goal.returns-in_default-read_whole
+unfolding hear_state_spec hear_state_refusal
+returns-in_default-read_whole c =
+    let a = c.args in
+    let e : of_state_line a.self a.rec.now (read_of c.read_whole.result).line ≡ 3 =
+    elim c.in_default-read_whole.branch [
+      | in_default-read_whole-via-in-Ok+in_default w ↦ grind (arith, no-state-line)
+      | in_default-read_whole-via-in_default w ↦ grind (arith, no-state-line)
+    ] in
+    grind arith
 
 pub with_state-requires : goal.with_state-requires
-with_state-requires c = (state-kept _ _ _ (kind_at (goal.at.with_state-requires c).In-StateLine)).head.sender
-
-pub returns : goal.returns
-returns c = rw (c.with_state.ensures, c.read_whole-read.ensures) (sym (hear-state-done _ _ _ _ _ (usable_at (goal.at.returns c).Else-not-usable) (kind_at (goal.at.returns c).In-StateLine) (sym (state-judged _ _ _ _ _ _ c.state_check-check.ensures c.own.ensures.0) ∙ ap check_number c.in_default-check.is)))
+with_state-requires c =
+    let k = c.in-Ok-State in
+    let e : (read_whole c.args.line.now).line ≡ StateLine k.view k.sender = ap (λ (x : Read). x.line) (sym c.read_whole.ensures) ∙ rw (k.is, k.field-0-is) in
+    (state-kept _ _ _ e).head.sender
