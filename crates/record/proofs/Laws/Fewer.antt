@@ -8,12 +8,9 @@ use Prim.Native.Nat.{ℕ, ◌≤◌, ◌<◌}
 use native.Mathlib.Nat.{lt_irrefl}
 use native.Mathlib.Omega.{arith}
 use lib.Dec.{eqb, leb, ltb}
-use lib.ListN.{length, take}
+use lib.ListN.{length}
 use borrow.Author.Tests.{ne_eqb, eqb-false, leb-true, le-leb, ltb-true, lt-ltb}
-use Rattle.std.specs.List.{list_all}
-use Rattle.std.proofs.lemmas.List.{get_or-take, length-take-le}
 use Rattle.loops.specs.Below.{all_below}
-use Rattle.loops.proofs.Laws.Chains.{all-chain}
 use Rattle.loops.proofs.Laws.Truth.{and_left, and_right, and_both, not-both, not-true, fails-if, passes-or-fails, test-ext}
 use Rattle.loops.proofs.Laws.Tests.{all-at, all_of}
 use Rattle.group.specs.Heads.{has, shared}
@@ -21,9 +18,8 @@ use Rattle.group.specs.Words.{heads, num, rank, sound, session_word, primary_ok,
 use Rattle.group.specs.Quorum.{enough}
 use Rattle.group.proofs.Laws.Words.{rank-none, rank-some, none_or_some, word_sound, word_number}
 use Rattle.group.proofs.Laws.Formed.{formed-cases, has-sound, primary-sound, formed-sound, formed-number}
-use Rattle.record.specs.Layout.{core, least, own, entered, number, primary, place_at, marks_at, places}
+use Rattle.record.specs.Layout.{core, least, own, entered, number, primary, place_at, marks_at}
 use Rattle.record.specs.Whole.{group_whole, limits_whole, primary_whole, formed_whole, used_ok, place_whole, apart, apart_whole, top_whole, marks_whole, words_whole, whole}
-use Rattle.record.proofs.Laws.Words.{length-places, place-in}
 use Rattle.record.proofs.Laws.Whole.{right_length, make-whole, whole_parts, used-parts, make-used, place-cases, apart-at, apart_of, free-whole, free-apart, marks-free}
 
 -- a test from which another follows is the two of them
@@ -131,15 +127,6 @@ apart-test r i j one =
     (λ e. apart_of r i j (λ u v n. eqb-false (num (place_at r i)) (num (place_at r j)) (not-true _ e) n))
     (λ e. ap not (ne_eqb (num (place_at r i)) (num (place_at r j)) (λ n.
     apart-at r i j e (λ z. lt_irrefl 0 (omega (arith, ap num z))) (λ z. lt_irrefl 0 (omega (arith, ap num z))) n)))
-
--- so the places before it are asked by their numbers
-pub apart-places : (r : List ℕ) (i : ℕ) → i ≤ 16 → 1 ≤ num (place_at r i)
-    → list_all (λ w. not (eqb (num (place_at r i)) (num w))) (take i (places r)) ≡ apart_whole r i
-unfolding apart_whole
-apart-places r i h one =
-    all-chain (λ w. not (eqb (num (place_at r i)) (num w))) (apart r i) (take i (places r)) 0 i (length-take-le i (places r) (omega (arith, length-places r)))
-    (λ j l.
-    ap (λ (w : ℕ). not (eqb (num (place_at r i)) (num w))) (get_or-take i (places r) j 0 l ∙ place-in r j (omega arith)) ∙ apart-test r i j one)
 
 -- a place that is not free is asked by the test of a used one
 pub used-place : (r : List ℕ) (i : ℕ) {w : ℕ} {u : Bool} → w ≡ place_at r i → (w ≡ 0 → ⊥)
