@@ -1,8 +1,8 @@
 -- The next line of what is left, its event, and what it asks.
 use mathlib.Core.Bool.{Bool, cond, ◌&&◌, true, false}
 use mathlib.Core.List.{List}
-use mathlib.Core.Path.{◌≡◌, sym, ap, ◌∙◌}
-use Prim.Native.Nat.{ℕ, ◌+◌, ◌≤◌, ◌<◌, suc, ◌-◌}
+use mathlib.Core.Path.{◌≡◌, ap}
+use Prim.Native.Nat.{ℕ, ◌≤◌, ◌<◌, suc, ◌-◌}
 use native.Mathlib.Omega.{arith}
 use borrow.Author.Tests.{lt-ltb, le-ltb, leb-true}
 use lib.Dec.{eqb, leb, ltb}
@@ -23,11 +23,10 @@ use Rattle.events.proofs.Laws.{of-one-head, of-delivery}
 use Rattle.events.specs.Events.{named, byte_at, starts, of_kind, event_of}
 use Rattle.deeds.specs.declared.What.{What}
 use Rattle.deeds.specs.declared.What.TheVariants as what
-use Rattle.views.specs.Views.{enter_what, listed, announced, members_of}
+use Rattle.views.specs.Views.{enter_what, announced, members_of}
 use Rattle.views.proofs.Laws.{room_of}
-use Rattle.asking.specs.declared.Order.{Order}
 use Rattle.asking.specs.declared.World.{World}
-use Rattle.asking.specs.Asking.{to_of, from_of, event_in, in_group, what_of, left, line_now, next_now, start_order, order_for, order_of}
+use Rattle.asking.specs.Asking.{to_of, from_of, event_in, in_group, what_of, left}
 
 -- ---- an event names heads below 16
 
@@ -59,7 +58,6 @@ kind-named k n f =
     (λ t. cond-elim Named (eqb k 0x18) _ _ (λ t. head (λ h. event.Recover h) (λ h l. record { to = l; from = l })) (λ t. none-named)))))))))
 
 pub event-named : (l : List ℕ) → Named (event_in l)
-unfolding event_in
 event-named l = if-named (ltb (line_end l) (length l)) _ (if-named (every is_digit (line_of l) && leb 4 (length (line_of l))) _ (kind-named (byte_at 0 (unhex (line_of l))) (length (line_of l)) (unhex (line_of l))))
 
 -- ---- the event of the first line
@@ -69,13 +67,13 @@ unfolding first_of
 long-first s h = length-take-le (suc (line_end s)) s h
 
 pub event-first : (s : List ℕ) → line_end s < length s → event_in (first_of s) ≡ event_of (take (line_end s) s)
-unfolding event_in line_of
+unfolding line_of
 event-first s h =
     let n : length (first_of s) ≡ suc (line_end s) = long-first s h in
     rw (lt-ltb (line_end (first_of s)) (length (first_of s)) (omega (arith, n, line-end-first s))) (ap event_of (line-of-first s))
 
 pub no-event-first : (s : List ℕ) → length s ≤ line_end s → event_in (first_of s) ≡ None
-unfolding event_in first_of
+unfolding first_of
 no-event-first s h =
     let e : take (suc (line_end s)) s ≡ s = take_all (suc (line_end s)) s (omega arith) in
     rw (e, le-ltb (line_end s) (length s) h)
@@ -83,7 +81,6 @@ no-event-first s h =
 -- ---- what is left
 
 pub length-left : (s : List ℕ) (w : World) → w.stop ≤ length s → length (left s w) ≡ w.stop - w.at
-unfolding left
 length-left s w h = length-take-le (w.stop - w.at) (drop w.at s) (omega (arith, length-drop w.at s))
 
 -- ---- a view is announced only where there is room
@@ -115,20 +112,3 @@ announce-room (Some (event.GiveAttempt d)) g views a b e = absurd (in-group-not 
 announce-room (Some (event.Form h)) g views a b e = absurd (in-group-not g what.Form (λ a b p. let z : ◌≡◌ {A = ℕ} 0 1 = cc in omega (arith, z)) a b e)
 announce-room (Some (event.Cut h k)) g views a b e = absurd (in-group-not g (what.Arm k) (λ a b p. let z : ◌≡◌ {A = ℕ} 0 1 = cc in omega (arith, z)) a b e)
 announce-room (Some (event.Recover h)) g views a b e = absurd (in-group-not g what.Recover (λ a b p. let z : ◌≡◌ {A = ℕ} 0 1 = cc in omega (arith, z)) a b e)
-
--- ---- the order
-
-pub asked-start : (views vs s : List ℕ) (w : World) (r : Order) → 0 < w.starting → r ≡ start_order w → (r ≡ order_of vs s w) × (views ≡ listed w.views r.what views)
-unfolding order_of
-asked-start views vs s w r h e = (rw (lt-ltb 0 w.starting h) e, ap (λ (z : Order). listed w.views z.what views) (sym e))
-
-pub asked-line : (views views' vs s rest : List ℕ) (w : World) (r : Order) (e : Option Event) (next : ℕ) → w.starting ≤ 0 → rest ≡ left s w → e ≡ event_in (first_of rest) → next ≡ w.at + line_end rest + 1
-    → r ≡ order_for e w.grouped vs next → views' ≡ listed w.views r.what views → (r ≡ order_of vs s w) × (views' ≡ listed w.views r.what views)
-unfolding order_of line_now next_now
-asked-line views views' vs s rest w r e next h l p q o f = (
-  rw (le-ltb 0 w.starting h)
-      (o
-      ∙ ap (λ (z : Option Event). order_for z w.grouped vs next) (p ∙ ap (λ (z : List ℕ). event_in (first_of z)) l)
-      ∙ ap (λ (z : ℕ). order_for (event_in (first_of (left s w))) w.grouped vs z) (q ∙ ap (λ (z : List ℕ). w.at + line_end z + 1) l)),
-  f,
-)

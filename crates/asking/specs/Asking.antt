@@ -60,29 +60,24 @@ what_of (Some (event.Cut h k)) grouped views = in_group grouped (what.Arm k)
 what_of (Some (event.Recover h)) grouped views = in_group grouped what.Recover
 
 -- the event of a line that stands with its newline; without one it is no event
-unfoldable pub event_in : List ℕ → Option Event
+abbrev pub event_in : List ℕ → Option Event
 event_in l = cond (ltb (line_end l) (length l)) (event_of (line_of l)) None
 
 -- ---- what a turn asks
 
 -- the part of the input that is left: its lines all end
-unfoldable pub left : List ℕ → World → List ℕ
+abbrev pub left : List ℕ → World → List ℕ
 left s w = take (w.stop - w.at) (drop w.at s)
-
--- a head that the group line has yet to start
-abbrev pub start_order : World → Order
-start_order w = record { to = 16 - w.starting; from = 16 - w.starting; next = w.at; what = what.Start w.core w.least }
 
 abbrev pub order_for : Option Event → Bool → List ℕ → ℕ → Order
 order_for e grouped views next = record { to = to_of e; from = from_of e; next = next; what = what_of e grouped views }
 
 -- the next line, with its newline, and where the one after it begins
-unfoldable pub line_now : List ℕ → World → List ℕ
+abbrev pub line_now : List ℕ → World → List ℕ
 line_now s w = first_of (left s w)
 
-unfoldable pub next_now : List ℕ → World → ℕ
+abbrev pub next_now : List ℕ → World → ℕ
 next_now s w = w.at + line_end (left s w) + 1
 
-unfoldable pub order_of : List ℕ → List ℕ → World → Order
-order_of views s w =
-    cond (ltb 0 w.starting) (start_order w) (order_for (event_in (line_now s w)) w.grouped views (next_now s w))
+abbrev pub order_of : List ℕ → List ℕ → World → Order
+order_of views s w = order_for (event_in (line_now s w)) w.grouped views (next_now s w)

@@ -4,16 +4,15 @@
 ghost use Rattle.std.specs.Prelude.{◌≡◌, ◌≤◌, ◌<◌, length, take};
 ghost use Rattle.lines.specs.Walk.{first_of};
 ghost use Rattle.views.specs.Views.{listed};
-ghost use Rattle.asking.specs.Asking.{to_of, from_of, in_group, group_what, what_of, event_in, start_order, order_for, order_of};
+ghost use Rattle.asking.specs.Asking.{to_of, from_of, in_group, group_what, what_of, event_in, order_for, order_of};
 
 use deeds::What;
 use events::{Event, read_event};
-use group::Group;
 use hexadecimal::line_end;
 use views::{enter_what, list_view, view_what};
 
-// Where the bench stands. The lent lists have more room than is used: these are the counts. at is where the next line begins, stop the end of the last whole line
-// of the part that was read, put the end of what is printed of that part. starting is how many heads the group line has yet to start.
+// Where the bench stands. The lent lists have more room than is used: views and formed are the counts. at is where the next line begins, stop the end of the last
+// whole line of the part that was read, put the end of what is printed of that part.
 #[derive(Clone, Copy)]
 pub struct World {
     pub at: usize,
@@ -21,10 +20,8 @@ pub struct World {
     pub put: usize,
     pub views: usize,
     pub formed: usize,
-    pub starting: usize,
+    // Whether a group line was taken.
     pub grouped: bool,
-    pub core: u16,
-    pub least: u8,
     // How many bytes were read, and how many reads are left.
     pub end: usize,
     pub turns: u64,
@@ -60,15 +57,14 @@ fn group_what(grouped: bool, core: u16, least: u8) -> What
     }
 }
 
-fn what_of(e: Option<Event>, grouped: bool, views: &[u64], n: usize) -> What
-    requires { n ≤ length views.now }
-    ensures { result ≡ what_of e grouped (take n views.now) }
+fn what_of(e: Option<Event>, grouped: bool, views: &[u64]) -> What
+    ensures { result ≡ what_of e grouped views.now }
 {
     match e {
         None => What::Refuse { number: 3 },
         Some(Event::GroupIs { core, least }) => group_what(grouped, core, least),
-        Some(Event::ViewIs { number, heads }) => view_what(grouped, views, n, number, heads),
-        Some(Event::Enter { number, .. }) => enter_what(grouped, views, n, number),
+        Some(Event::ViewIs { number, heads }) => view_what(grouped, views, number, heads),
+        Some(Event::Enter { number, .. }) => enter_what(grouped, views, number),
         Some(Event::GiveState(d)) => in_group(grouped, What::HearState { which: d.which }),
         Some(Event::Decide { .. }) => in_group(grouped, What::Decide),
         Some(Event::GiveAttempt(d)) => in_group(grouped, What::HearAttempt { which: d.which }),
@@ -95,23 +91,6 @@ fn heads_of(e: Option<Event>) -> (usize, usize)
     }
 }
 
-// A head that the group line has yet to start.
-fn start_order(w: World) -> Order
-    requires { (0 < w.starting) × (w.starting ≤ 16) }
-    ensures { result ≡ start_order w }
-{
-    let p = Group::HEADS - w.starting;
-    Order {
-        to: p,
-        from: p,
-        next: w.at,
-        what: What::Start {
-            core: w.core,
-            least: w.least,
-        },
-    }
-}
-
 // The event of the first line, if the line ends.
 fn event_in(s: &[u8]) -> Option<Event>
     ensures { result ≡ event_in (first_of s.now) }
@@ -125,12 +104,11 @@ fn event_in(s: &[u8]) -> Option<Event>
 }
 
 // What an event has the table do.
-fn order_for(e: Option<Event>, grouped: bool, views: &[u64], n: usize, next: usize) -> Order
-    requires { n ≤ length views.now }
-    ensures { result ≡ order_for e grouped (take n views.now) next }
+fn order_for(e: Option<Event>, grouped: bool, views: &[u64], next: usize) -> Order
+    ensures { result ≡ order_for e grouped views.now next }
 {
     let (to, from) = heads_of(e);
-    let what = what_of(e, grouped, views, n);
+    let what = what_of(e, grouped, views);
     Order {
         to,
         from,
@@ -139,21 +117,14 @@ fn order_for(e: Option<Event>, grouped: bool, views: &[u64], n: usize, next: usi
     }
 }
 
-// What this turn has the table do: a head that the group line has yet to start, or what the next line asks.
+// What the next line has the table do.
 pub fn asked(views: &mut [u64], s: &[u8], w: World) -> Order
-    requires { (w.views ≤ length views.old) × (w.starting ≤ 16) × (w.at < w.stop) × (w.stop ≤ length s.now) }
+    requires { (w.views ≤ length views.old) × (w.at < w.stop) × (w.stop ≤ length s.now) }
     ensures { (result ≡ order_of (take w.views views.old) s.now w) × (views.new ≡ listed w.views result.what views.old) }
 {
-    let n = w.views;
-    if 0 < w.starting {
-        return start_order(w);
-    }
-    let at = w.at;
-    let stop = w.stop;
-    let rest = &s[at..stop];
-    let e = event_in(rest);
-    let order = order_for(e, w.grouped, views, n, at + line_end(rest) + 1);
-    let what = order.what;
-    list_view(views, n, what);
+    let rest = &s[w.at..w.stop];
+    let next = w.at + line_end(rest) + 1;
+    let order = order_for(event_in(rest), w.grouped, &views[..w.views], next);
+    list_view(views, w.views, order.what);
     order
 }

@@ -20,12 +20,10 @@ pub record Calm (ts : List Seat) (vs fs bs os : List ℕ) (z : World) : Type 0 w
   pub o_is : length os ≡ 196608
   pub views-in : z.views ≤ 1000
   pub formed-in : z.formed ≤ 1001
-  pub starting : z.starting ≤ 16
   pub stop : z.stop ≤ z.end
   pub end : z.end ≤ 8192
 
 pub calm-first : (ts : List Seat) (vs fs bs os : List ℕ) (z : World) → z ≡ first_world → length ts ≡ 16 → length vs ≡ 1000 → length fs ≡ 1001 → length bs ≡ 8192 → length os ≡ 196608 → Calm ts vs fs bs os z
-unfolding first_world
 calm-first ts vs fs bs os z e t v f b o = record {
   t-is = t;
   v-is = v;
@@ -34,7 +32,6 @@ calm-first ts vs fs bs os z e t v f b o = record {
   o_is = o;
   views-in = omega (arith, ap (λ (x : World). x.views) e);
   formed-in = omega (arith, ap (λ (x : World). x.formed) e);
-  starting = omega (arith, ap (λ (x : World). x.starting) e);
   stop = omega (arith, ap (λ (x : World). x.stop) e, ap (λ (x : World). x.end) e);
   end = omega (arith, ap (λ (x : World). x.end) e);
 }
@@ -44,7 +41,6 @@ calm-between ts vs fs bs os z c = record { long = c.b-is; stop = c.stop; end = c
 
 -- all that lies before `stop` is left after a read
 left-all : (bs : List ℕ) (r : World) → r.at ≡ 0 → left bs r ≡ take r.stop bs
-unfolding left
 left-all bs r e = let f : r.stop - 0 ≡ r.stop = omega arith in rw (e, f)
 
 pub ready-now : (ts : List Seat) (vs fs bs os bs' : List ℕ) (z r : World) → Calm ts vs fs bs os z → length bs' ≡ length bs → Filled bs bs' z r → Ready ts vs fs bs' os r
@@ -56,7 +52,6 @@ ready-now ts vs fs bs os bs' z r c l f =
       views-in = omega (arith, c.views-in, h.views);
       formed-room = c.f-is;
       formed-in = omega (arith, c.formed-in, h.formed);
-      starting = omega (arith, c.starting, h.starting);
       within = omega (arith, h.stop, h.end, l, c.b-is);
       ends = ap (begun []) (left-all bs' r h.at) ∙ h.ends;
       room = omega (arith, h.put, h.at, h.stop, h.end, c.o_is);
@@ -78,7 +73,6 @@ calm-after ts vs fs bs os bs₀ bs₁ z r y x lb lo f p q l =
       o_is = lo;
       views-in = omega (arith, q.views-in, k.views);
       formed-in = omega (arith, q.formed-in, k.formed);
-      starting = omega (arith, q.starting, k.starting);
       stop = omega (arith, k.stop, k.end, p.stop, p.end, h.stop);
       end = omega (arith, k.end, p.end, h.end);
     }

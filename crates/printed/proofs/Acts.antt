@@ -27,7 +27,7 @@ use Rattle.deeds.specs.declared.What.TheVariants as what
 use Rattle.keeping.specs.Keeping.{blank, pushed, kept_at, is_line, line_of}
 use Rattle.seat.specs.Seat.{sent_line, state_sent, attempt_sent, sent_on_entry, sent_on_decision, stores_of}
 use Rattle.deeds.specs.Told.{Told, call as says, announced}
-use Rattle.seat.specs.Played.{Played, does_nothing, after_call, entry, enters, listened, hears_state, hears_attempt, decision, decides, formation, forms as forms_by, recovers, arms, played_by}
+use Rattle.seat.specs.Played.{Played, does_nothing, after_call, enters, listened, hears_state, hears_attempt, decides, forms as forms_by, recovers, arms, played_by}
 use Rattle.formed.specs.Formed.{newly, noted}
 use Rattle.worlds.specs.Bench.{seat_at}
 use Rattle.head.proofs.Laws.Writing.{state-hands-back, attempt-hands-back}
@@ -63,7 +63,6 @@ abbrev pub Allowed : Setting → What → Type 0
 Allowed S (what.Refuse n) = Unit {0}
 Allowed S (what.Announce v m) = Unit {0}
 Allowed S (what.Open core least) = ⊥
-Allowed S (what.Start core least) = ⊥
 Allowed S (what.Enter v m) = (v < 4294967296) × (m ≡ S.members v)
 Allowed S (what.HearState which) = Unit {0}
 Allowed S (what.HearAttempt which) = Unit {0}
@@ -90,11 +89,11 @@ module _ (S : Setting) (room : (W : World) → History S W → length (in_order 
   kept_on W' m which e = m _ (f.kept p small which e)
 
   does-nothing : (r : Told) → Next (does_nothing h r 0) []
-  unfolding does_nothing after
+  unfolding after
   does-nothing r = rw (set-get_or t p _, noted-none L) f
 
   does-arm : (k : ℕ) → Next (arms h k) []
-  unfolding arms after
+  unfolding after
   does-arm k =
       follows-moved S t L W f p small (arms h k).seat W (record { history = f.history; here = f.heads p small; there = λ q n. refl; sent = λ x d. d })
       (noted 0 L) (kept_on W (λ x d. d)) (none-formed W refl)
@@ -143,11 +142,9 @@ module _ (S : Setting) (room : (W : World) → History S W → length (in_order 
       }
 
     sends-state : Sends r s (pushed (state_sent s r) h.sent) (V₂ (write-state blank))
-    unfolding state_sent
     sends-state = sends-line (write-state blank) (write_state_spec s r blank) tt refl (state-hands-back s r blank) refl refl
 
     sends-attempt : Sends r s (pushed (attempt_sent s r) h.sent) (V₂ (write-attempt blank))
-    unfolding attempt_sent
     sends-attempt = sends-line (write-attempt blank) (write_attempt_spec s r blank) tt refl (attempt-hands-back s r blank) refl refl
 
     on-entry : (a : Said) → Sends r s (sent_on_entry a s r h.sent) (after S (sends_state p a) V₁)
@@ -181,12 +178,11 @@ module _ (S : Setting) (room : (W : World) → History S W → length (in_order 
     on-decision (refused n) = sends_none
 
   sends-follow : (r : List ℕ) (s : Session) (sent : List Kept) (a : Said) (W' : World) → Sends r s sent W' → Follows S (set t p (after_call r s sent a 0).seat) (noted 0 L) W'
-  unfolding after_call
   sends-follow r s sent a W' x =
       follows-moved S t L W f p small (after_call r s sent a 0).seat W' x.moves (noted 0 L) x.kept (none-formed W' x.same)
 
   does-enter : (v : ℕ) → v < 4294967296 → Next (enters h v (S.members v)) (events_by p h g (what.Enter v (S.members v)))
-  unfolding enters entry after after_call
+  unfolding after
   does-enter v l =
       let e = enter_spec h.session h.words v (S.members v) (stores_of h) in
       sends-follow e.words e.session (sent_on_entry e.answer e.session e.words h.sent) e.answer
@@ -194,7 +190,7 @@ module _ (S : Setting) (room : (W : World) → History S W → length (in_order 
       (on-entry e.words e.session (W₁ (stores_of h) (enter v) l) (one-call (stores_of h) (enter v) l) (one-forms (stores_of h) (enter v) l) e.answer)
 
   does-decide : Next (decides h) (events_by p h g what.Decide)
-  unfolding decides decision after after_call
+  unfolding after
   does-decide =
       let e = decide_spec h.session h.words (stores_of h) in
       sends-follow e.words e.session (sent_on_decision e.answer e.session e.words h.sent) e.answer
@@ -208,13 +204,12 @@ module _ (S : Setting) (room : (W : World) → History S W → length (in_order 
   heard-before which e = may-hear S f.history from (line_of (kept_at g.sent which)) (f.kept from near which e)
 
   listens : (s : Session) (a : Said) (W' : World) → Moves S p (running h.words s) W W' → W'.formed ≡ W.formed → Follows S (set t p (listened h s a).seat) (noted 0 L) W'
-  unfolding listened
   listens s a W' m e = follows-moved S t L W f p small (listened h s a).seat W' m (noted 0 L) (kept_on W' m.sent) (none-formed W' e)
 
   -- a call that hears: it leaves the record and forms nothing
   does-hear : (b : Bool) (c : Call) (o : Ended) → (b ≡ true → Given W c) → leaves S c 0 h.words h.session ≡ h.words → back S c 0 h.words h.session ≡ o.session → forms c 0 h.words h.session ≡ []
       → Next (cond b (listened h o.session o.answer) (does_nothing h (says (refused 14)) 0)) (cond b (call p false 0 c ∷ []) [])
-  unfolding after listened
+  unfolding after
   does-hear true c o given same goes none =
       listens o.session o.answer (step S (call p false 0 c) W)
       (subst (λ (x : Session). Moves S p (running h.words x) W (step S (call p false 0 c) W)) goes
@@ -223,13 +218,13 @@ module _ (S : Setting) (room : (W : World) → History S W → length (in_order 
   does-hear false c o given same goes none = does-nothing (says (refused 14))
 
   does-hear-state : (which : ℕ) → Next (hears_state h g which) (hears p hear-state (kept_at g.sent which))
-  unfolding hears_state hears
+  unfolding hears
   does-hear-state which =
       let bytes = line_of (kept_at g.sent which) in
       does-hear (is_line (kept_at g.sent which).len) (hear-state bytes) (hear_state_spec h.session h.words bytes) (heard-before which) (hear-state-words h.session h.words bytes) refl refl
 
   does-hear-attempt : (which : ℕ) → Next (hears_attempt h g which) (hears p hear-attempt (kept_at g.sent which))
-  unfolding hears_attempt hears
+  unfolding hears
   does-hear-attempt which =
       let bytes = line_of (kept_at g.sent which) in
       does-hear (is_line (kept_at g.sent which).len) (hear-attempt bytes) (hear_attempt_spec h.session h.words bytes) (heard-before which) (hear-attempt-words h.session h.words bytes) refl refl
@@ -250,26 +245,24 @@ module _ (S : Setting) (room : (W : World) → History S W → length (in_order 
           (placed ∙ sym order, inr placed)
 
   does-form : Next (forms_by h) (events_by p h g what.Form) × Roomy (forms_by h).formed L
-  unfolding forms_by formation after after_call
+  unfolding after
   does-form =
       let m = one-call (stores_of h) form tt in
       let l = form-listed (primary h.words) (primary (form_spec h.session h.words (stores_of h)).words) (W₁ (stores_of h) form tt) m.history (one-forms (stores_of h) form tt) in
       (follows-moved S t L W f p small (forms_by h).seat (W₁ (stores_of h) form tt) m _ (kept_on (W₁ (stores_of h) form tt) m.sent) l.0, l.1)
 
   does-recover : Next (recovers h) (events_by p h g what.Recover)
-  unfolding recovers after after_call
+  unfolding after
   does-recover =
       let m = one-call (stores_of h) recover tt in
       follows-moved S t L W f p small (recovers h).seat (W₁ (stores_of h) recover tt) m _ (kept_on (W₁ (stores_of h) recover tt) m.sent) (none-formed (W₁ (stores_of h) recover tt) (one-forms (stores_of h) recover tt))
 
   -- ---- all of them
 
-  pub acts-follow : (w : What) → Allowed S w → Follows S (set t p (played_by p h g w).seat) (noted (played_by p h g w).formed L) (after S (events_by p h g w) W)
-  unfolding played_by
+  pub acts-follow : (w : What) → Allowed S w → Follows S (set t p (played_by h g w).seat) (noted (played_by h g w).formed L) (after S (events_by p h g w) W)
   acts-follow (what.Refuse n) a = does-nothing (says (refused n))
   acts-follow (what.Announce v m) a = does-nothing announced
   acts-follow (what.Open core least) a = absurd a
-  acts-follow (what.Start core least) a = absurd a
   acts-follow (what.Enter v m) (l, e) = subst (λ (x : ℕ). Next (enters h v x) (events_by p h g (what.Enter v x))) (sym e) (does-enter v l)
   acts-follow (what.HearState which) a = does-hear-state which
   acts-follow (what.HearAttempt which) a = does-hear-attempt which
@@ -282,12 +275,10 @@ module _ (S : Setting) (room : (W : World) → History S W → length (in_order 
   heard-none true x y e f = e
   heard-none false x y e f = f
 
-  pub acts-room : (w : What) → Allowed S w → Roomy (played_by p h g w).formed L
-  unfolding played_by does_nothing enters hears_state hears_attempt listened decides recovers arms after_call
+  pub acts-room : (w : What) → Allowed S w → Roomy (played_by h g w).formed L
   acts-room (what.Refuse n) a = inl refl
   acts-room (what.Announce v m) a = inl refl
   acts-room (what.Open core least) a = absurd a
-  acts-room (what.Start core least) a = absurd a
   acts-room (what.Enter v m) a = inl refl
   acts-room (what.HearState which) a =
       let o = hear_state_spec h.session h.words (line_of (kept_at g.sent which)) in

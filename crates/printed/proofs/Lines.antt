@@ -7,6 +7,7 @@ use Prim.Native.Nat.{ℕ, ◌≤◌, ◌<◌}
 use native.Mathlib.Omega.{arith}
 use borrow.Author.Tests.{eqb-true, eqb-false}
 use lib.Dec.{leb, eqb}
+use Rattle.std.specs.Prelude.{Option, Some, None}
 use lib.ListN.{length, replicate}
 use lib.Seq.{set-get_or}
 use Rattle.loops.proofs.Laws.Truth.{or_right, and_right, passes-or-fails}
@@ -24,11 +25,10 @@ use Rattle.seat.specs.declared.Seat.{Seat}
 use Rattle.deeds.specs.declared.What.{What}
 use Rattle.deeds.specs.declared.What.TheVariants as what
 use Rattle.seat.specs.Seat.{empty_seat}
-use Rattle.seat.specs.Played.{does_nothing, played_by}
 use Rattle.views.specs.Views.{members_of, view_what, enter_what}
 use Rattle.formed.specs.Formed.{noted}
 use Rattle.worlds.specs.Bench.{Bench, seat_at, start_last, opens, all_started, new_views, acts, obeyed, happens, taken, played, new_bench}
-use Rattle.asking.specs.Asking.{to_of, from_of, in_group, group_what, what_of, event_in}
+use Rattle.asking.specs.Asking.{to_of, from_of, group_what, what_of, event_in}
 use Rattle.printed.specs.Printed.{starting, events_by, events_of, events_in, after, or_else}
 use Rattle.printed.proofs.Listed.{noted-none, noted-put, formed-fit}
 use Rattle.printed.proofs.Follows.{Follows}
@@ -39,10 +39,10 @@ use Rattle.printed.proofs.Asked.{Sized, line-sized, to-small, from-small, asked-
 -- ---- the views of a text
 
 -- what event e asks of bench b
-abbrev pub asked_in : Line → Bench → What
+abbrev pub asked_in : Option Line → Bench → What
 asked_in e b = what_of e b.grouped b.views
 
-views-are : (e : Line) (b : Bench) → (happens e b).views ≡ b.views ++ new_views (asked_in e b)
+views-are : (e : Option Line) (b : Bench) → (happens e b).views ≡ b.views ++ new_views (asked_in e b)
 unfolding happens obeyed
 views-are e b = refl
 
@@ -64,7 +64,6 @@ none-started : (S : Setting) (w : What) → Allowed S w → (t : List Seat) → 
 none-started S (what.Refuse n) a t = refl
 none-started S (what.Announce v m) a t = refl
 none-started S (what.Open core least) a t = absurd a
-none-started S (what.Start core least) a t = absurd a
 none-started S (what.Enter v m) a t = refl
 none-started S (what.HearState which) a t = refl
 none-started S (what.HearAttempt which) a t = refl
@@ -84,7 +83,7 @@ module _ (S : Setting) (views : List ℕ) (is : (v : ℕ) → S.members v ≡ me
     pub grouped : b.grouped ≡ true
     pub follows : Follows S b.table b.formed W
 
-  module _ (b : Bench) (W : World) (o : On b W) (e : Line) (sized : Sized e) (more : List ℕ) (all : views ≡ b.views ++ more) where
+  module _ (b : Bench) (W : World) (o : On b W) (e : Option Line) (sized : Sized e) (more : List ℕ) (all : views ≡ b.views ++ more) where
     allowed : Allowed S (asked_in e b)
     allowed =
         subst (λ (g : Bool). Allowed S (what_of e g b.views)) (sym o.grouped)
@@ -124,7 +123,7 @@ unfolding new_bench
 new-waits = record { ungrouped = refl; table = refl; views = refl; formed = refl }
 
 refused-waits : (to from n : ℕ) (b : Bench) → Waits b → Waits (obeyed to from (what.Refuse n) b)
-unfolding obeyed acts played_by does_nothing
+unfolding obeyed acts
 refused-waits to from n b k = record {
   ungrouped = k.ungrouped;
   table = set-get_or b.table to _ ∙ k.table;
@@ -133,16 +132,16 @@ refused-waits to from n b k = record {
 }
 
 refused_none : (to from n : ℕ) (b : Bench) → (acts to from (what.Refuse n) b).formed ≡ 0
-unfolding acts played_by does_nothing
+unfolding acts
 refused_none to from n b = refl
 
 -- the first line: it is the group line, or nothing comes of it
-pub data First (e : Line) (b : Bench) : Type 0 where
-  waits : Waits (happens e b) → events_of e b ≡ [] → ((x : Line) → or_else e x ≡ x) → (acts (to_of e) (from_of e) (asked_in e b) b).formed ≡ 0 → First e b
-  opened : (core least : ℕ) → e ≡ event.GroupIs core least → First e b
+pub data First (e : Option Line) (b : Bench) : Type 0 where
+  waits : Waits (happens e b) → events_of e b ≡ [] → ((x : Option Line) → or_else e x ≡ x) → (acts (to_of e) (from_of e) (asked_in e b) b).formed ≡ 0 → First e b
+  opened : (core least : ℕ) → e ≡ Some (event.GroupIs core least) → First e b
 
 module _ (b : Bench) (k : Waits b) where
-  refused-first : (e : Line) (n : ℕ) → ((x : Line) → or_else e x ≡ x) → what_of e false b.views ≡ what.Refuse n → First e b
+  refused-first : (e : Option Line) (n : ℕ) → ((x : Option Line) → or_else e x ≡ x) → what_of e false b.views ≡ what.Refuse n → First e b
   unfolding happens events_of
   refused-first e n f q =
       let asked : asked_in e b ≡ what.Refuse n = ap (λ (g : Bool). what_of e g b.views) k.ungrouped ∙ q in
@@ -150,18 +149,18 @@ module _ (b : Bench) (k : Waits b) where
       (ap (λ (w : What). events_by (to_of e) (seat_at b.table (to_of e)) (seat_at b.table (from_of e)) w) asked) f
       (ap (λ (w : What). (acts (to_of e) (from_of e) w b).formed) asked ∙ refused_none (to_of e) (from_of e) n b)
 
-  pub first : (e : Line) → First e b
-  unfolding in_group view_what enter_what
-  first event.NoEvent = refused-first event.NoEvent 3 (λ x. refl) refl
-  first (event.GroupIs core least) = opened core least refl
-  first (event.ViewIs v m) = refused-first (event.ViewIs v m) 14 (λ x. refl) refl
-  first (event.Enter h v) = refused-first (event.Enter h v) 14 (λ x. refl) refl
-  first (event.GiveState to from which) = refused-first (event.GiveState to from which) 14 (λ x. refl) refl
-  first (event.Decide h) = refused-first (event.Decide h) 14 (λ x. refl) refl
-  first (event.GiveAttempt to from which) = refused-first (event.GiveAttempt to from which) 14 (λ x. refl) refl
-  first (event.Form h) = refused-first (event.Form h) 14 (λ x. refl) refl
-  first (event.Cut h n) = refused-first (event.Cut h n) 14 (λ x. refl) refl
-  first (event.Recover h) = refused-first (event.Recover h) 14 (λ x. refl) refl
+  pub first : (e : Option Line) → First e b
+  unfolding view_what enter_what
+  first None = refused-first None 3 (λ x. refl) refl
+  first (Some (event.GroupIs core least)) = opened core least refl
+  first (Some (event.ViewIs v m)) = refused-first (Some (event.ViewIs v m)) 14 (λ x. refl) refl
+  first (Some (event.Enter h v)) = refused-first (Some (event.Enter h v)) 14 (λ x. refl) refl
+  first (Some (event.GiveState d)) = refused-first (Some (event.GiveState d)) 14 (λ x. refl) refl
+  first (Some (event.Decide h)) = refused-first (Some (event.Decide h)) 14 (λ x. refl) refl
+  first (Some (event.GiveAttempt d)) = refused-first (Some (event.GiveAttempt d)) 14 (λ x. refl) refl
+  first (Some (event.Form h)) = refused-first (Some (event.Form h)) 14 (λ x. refl) refl
+  first (Some (event.Cut h n)) = refused-first (Some (event.Cut h n)) 14 (λ x. refl) refl
+  first (Some (event.Recover h)) = refused-first (Some (event.Recover h)) 14 (λ x. refl) refl
 
 -- ---- the group line
 
@@ -188,15 +187,14 @@ module _ (S : Setting) (given : ℕ) (takes : taken_least given ≡ S.least) (vi
   unfolding put
   core-noted = ap (noted S.core) k.formed ∙ noted-put S.core [] (core-some S (group_in S) (reading S)) (omega arith)
 
-  abbrev group : Line
-  group = event.GroupIs S.core given
+  abbrev group : Option Line
+  group = Some (event.GroupIs S.core given)
 
   group-asked : asked_in group b ≡ what.Open S.core given
-  unfolding group_what
   group-asked = ap (λ (g : Bool). group_what g S.core given) k.ungrouped
 
   opened-on : On S views is short (obeyed 0 0 (what.Open S.core given) b) (after S (starting given 16) (empty S))
-  unfolding obeyed acts played_by does_nothing
+  unfolding obeyed acts
   opened-on = record {
     grouped = refl;
     follows =
@@ -215,7 +213,7 @@ alone-room : (w : ℕ) → Roomy w []
 unfolding put
 alone-room w = ⊎_elim (λ e. inl (eqb-true w 0 e)) (λ e. inr (noted-put w [] (eqb-false w 0 e) (omega arith))) (passes-or-fails (eqb w 0))
 
-pub group-room : (core least : ℕ) (b : Bench) → Waits b → Roomy (acts 0 0 (asked_in (event.GroupIs core least) b) b).formed b.formed
-unfolding acts played_by group_what does_nothing
+pub group-room : (core least : ℕ) (b : Bench) → Waits b → Roomy (acts 0 0 (asked_in (Some (event.GroupIs core least)) b) b).formed b.formed
+unfolding acts
 group-room core least b k =
     subst (λ (g : Bool). Roomy (acts 0 0 (group_what g core least) b).formed b.formed) (sym k.ungrouped) (subst (λ (L : List ℕ). Roomy core L) (sym k.formed) (alone-room core))

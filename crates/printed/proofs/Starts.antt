@@ -26,7 +26,7 @@ use Rattle.printed.proofs.Follows.{KeptIn, not-kept, head_of, Follows, seat-here
 -- ---- a head before its group line
 
 empty-kept : (which : ℕ) → kept_at empty_seat.sent which ≡ no_line
-unfolding kept_at empty_seat
+unfolding kept_at
 empty-kept which =
     ⊎_elim
     (λ l. ap (λ (b : Bool). cond b (get_or (replicate 4 no_line) which (record { len = 0; bytes = [] })) no_line) (le-leb which 3 (omega arith)) ∙ get_or-replicate 4 which no_line _ l)
@@ -37,7 +37,6 @@ none_kept : (p : ℕ) (L : List Sent) → KeptIn p empty_seat.sent L
 none_kept p L which e = not-kept (subst (λ (k : Kept). is_line k.len ≡ true) (empty-kept which) e)
 
 empty-long : length empty_seat.words ≡ 52
-unfolding empty_seat
 empty-long = length-replicate {A = ℕ} 52 0
 
 module _ (S : Setting) (given : ℕ) (takes : taken_least given ≡ S.least) where
@@ -68,11 +67,9 @@ module _ (S : Setting) (given : ℕ) (takes : taken_least given ≡ S.least) whe
     seat-is = seat-here t i h (omega (arith, b.long))
 
     head-is : head_of h ≡ first
-    unfolding starts
     head-is = ap (λ (r : List ℕ). running (start_spec r i S.core given).rec no_session) (b.waiting i (omega arith) (omega arith))
 
     sent_is : h.sent ≡ (seat_at t i).sent
-    unfolding starts
     sent_is = refl
 
     start-here : W₁.head i ≡ first

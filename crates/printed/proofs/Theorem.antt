@@ -8,6 +8,7 @@ use native.Mathlib.Decide.{ℕ_discrete}
 use native.Mathlib.Omega.{arith}
 use borrow.Author.Tests.{eq-eqb, ne_eqb}
 use lib.Dec.{eqb}
+use Rattle.std.specs.Prelude.{Option, Some}
 use lib.ListN.{length}
 use Rattle.loops.proofs.Laws.Truth.{passes-or-fails, not-both, or_right}
 use Rattle.lines.specs.Walk.{lines_of}
@@ -38,7 +39,7 @@ record From (ls : List (List ℕ)) (b : Bench) : Type 0 where
 -- ---- a line before it
 
 module _ (l : List ℕ) (ls : List (List ℕ)) (b : Bench) where
-  from-later : events_of (event_in l) b ≡ [] → ((x : Line) → or_else (event_in l) x ≡ x) → From ls (taken l b) → From (l ∷ ls) b
+  from-later : events_of (event_in l) b ≡ [] → ((x : Option Line) → or_else (event_in l) x ≡ x) → From ls (taken l b) → From (l ∷ ls) b
   unfolding played events_in group_line
   from-later e f r = record {
     setting = r.setting;
@@ -50,8 +51,8 @@ module _ (l : List ℕ) (ls : List (List ℕ)) (b : Bench) where
 
   -- ---- the group line
 
-  module _ (core least : ℕ) (e : event_in l ≡ event.GroupIs core least) (k : Waits b) (short : length (played (l ∷ ls) b).views ≤ 1000) where
-    sized : Sized (event.GroupIs core least)
+  module _ (core least : ℕ) (e : event_in l ≡ Some (event.GroupIs core least)) (k : Waits b) (short : length (played (l ∷ ls) b).views ≤ 1000) where
+    sized : Sized (Some (event.GroupIs core least))
     sized = subst Sized e (line-sized l)
 
     abbrev S : Setting
@@ -60,12 +61,12 @@ module _ (l : List ℕ) (ls : List (List ℕ)) (b : Bench) where
     from-here : From (l ∷ ls) b
     unfolding setting_of played events_in group_line taken
     from-here =
-        let on = subst (λ (x : Line). On S (played (l ∷ ls) b).views (λ v. refl) short (happens x b) (after S (events_of x b) (empty S))) (sym e)
+        let on = subst (λ (x : Option Line). On S (played (l ∷ ls) b).views (λ v. refl) short (happens x b) (after S (events_of x b) (empty S))) (sym e)
         (group-on S least refl (played (l ∷ ls) b).views (λ v. refl) short b k) in
         let o = lines-follow S (played (l ∷ ls) b).views (λ v. refl) short ls (taken l b) (after S (events_of (event_in l) b) (empty S)) refl on in
         record {
           setting = S;
-          is = record { given = least; group = ap (λ (x : Line). or_else x (group_line ls)) e; takes = refl; members = λ v. refl };
+          is = record { given = least; group = ap (λ (x : Option Line). or_else x (group_line ls)) e; takes = refl; members = λ v. refl };
           follows =
               subst (Follows S (played (l ∷ ls) b).table (played (l ∷ ls) b).formed) (sym (after_both S (events_of (event_in l) b) (events_in ls (taken l b)) (empty S))) o.follows;
         }
@@ -86,8 +87,8 @@ unfolding played taken happens obeyed
 grouped-stays [] b g = g
 grouped-stays (l ∷ ls) b g = grouped-stays ls (taken l b) (or_right (opens (asked_in (event_in l) b)) b.grouped g)
 
-group-grouped : (core least : ℕ) (b : Bench) → Waits b → (happens (event.GroupIs core least) b).grouped ≡ true
-unfolding happens obeyed group_what
+group-grouped : (core least : ℕ) (b : Bench) → Waits b → (happens (Some (event.GroupIs core least)) b).grouped ≡ true
+unfolding happens obeyed
 group-grouped core least b k = ap (λ (g : Bool). opens (group_what g core least) || g) k.ungrouped
 
 waits-on : (ls : List (List ℕ)) (b : Bench) → Waits b → (played ls b).grouped ≡ false → Waits (played ls b)
@@ -98,7 +99,7 @@ waits-on (l ∷ ls) b k g = go (λ w. waits-on ls (taken l b) w g) (first b k (e
     go : (Waits (taken l b) → Waits (played ls (taken l b))) → First (event_in l) b → Waits (played ls (taken l b))
     go next (waits w e f z) = next w
     go next (opened core least e) =
-        absurd (not-both _ (grouped-stays ls (taken l b) (subst (λ (x : Line). (happens x b).grouped ≡ true) (sym e) (group-grouped core least b k))) g)
+        absurd (not-both _ (grouped-stays ls (taken l b) (subst (λ (x : Option Line). (happens x b).grouped ≡ true) (sym e) (group-grouped core least b k))) g)
 
 -- ---- THE THEOREM
 
@@ -142,7 +143,7 @@ module _ (ls : List (List ℕ)) (l : List ℕ) where
   abbrev b : Bench
   b = played ls new_bench
 
-  abbrev e : Line
+  abbrev e : Option Line
   e = event_in l
 
   grouped-room : From ls new_bench → b.grouped ≡ true → Roomy (acts (to_of e) (from_of e) (asked_in e b) b).formed b.formed
@@ -151,7 +152,7 @@ module _ (ls : List (List ℕ)) (l : List ℕ) where
 
   waiting-room : First e b → Waits b → Roomy (acts (to_of e) (from_of e) (asked_in e b) b).formed b.formed
   waiting-room (waits w ev f z) k = inl z
-  waiting-room (opened core least q) k = subst (λ (x : Line). Roomy (acts (to_of x) (from_of x) (asked_in x b) b).formed b.formed) (sym q) (group-room core least b k)
+  waiting-room (opened core least q) k = subst (λ (x : Option Line). Roomy (acts (to_of x) (from_of x) (asked_in x b) b).formed b.formed) (sym q) (group-room core least b k)
 
   pub always-room : Room ls l
   unfolding formed_by

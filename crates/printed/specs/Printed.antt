@@ -1,6 +1,6 @@
 -- Document 02, Item 1: "What it prints of formed sessions is proved to be those of the history, so demand 3 reads over it." Which history the event lines are: each event
 -- that makes its head act is one or two events of crate history, with the head's own record, session and stores.
-use Rattle.std.specs.Prelude.{true, false, cond, List, [], ◌∷◌, ◌++◌, ◌≡◌, ℕ, zero, suc, ◌-◌, ◌≤◌, ◌<◌, eqb, length}
+use Rattle.std.specs.Prelude.{true, false, cond, List, [], ◌∷◌, ◌++◌, ◌≡◌, ℕ, zero, suc, ◌-◌, ◌≤◌, ◌<◌, eqb, length, Option, Some, None}
 use Rattle.group.specs.Answers.{Said, started, recovered, entered, heard, attempted, no-quorum, numbers-run-out, no_place, formed, cut, written, refused}
 use Rattle.record.specs.Start.{taken_least}
 use Rattle.lines.specs.Walk.{lines_of}
@@ -66,7 +66,6 @@ abbrev pub events_by : ℕ → Seat → Seat → What → List Event
 events_by p h g (what.Refuse n) = []
 events_by p h g (what.Announce v m) = []
 events_by p h g (what.Open core least) = starting least 16
-events_by p h g (what.Start core least) = []
 events_by p h g (what.Enter view m) = call p false (stores_of h) (enter view) ∷ sends_state p (entry h view m).answer
 events_by p h g (what.HearState which) = hears p hear-state (kept_at g.sent which)
 events_by p h g (what.HearAttempt which) = hears p hear-attempt (kept_at g.sent which)
@@ -75,7 +74,7 @@ events_by p h g what.Form = call p false (stores_of h) form ∷ []
 events_by p h g what.Recover = call p false (stores_of h) recover ∷ []
 events_by p h g (what.Arm k) = []
 
-unfoldable pub events_of : Line → Bench → List Event
+unfoldable pub events_of : Option Line → Bench → List Event
 events_of e b = events_by (to_of e) (seat_at b.table (to_of e)) (seat_at b.table (from_of e)) (what_of e b.grouped b.views)
 
 unfoldable pub events_in : List (List ℕ) → Bench → List Event
@@ -90,26 +89,26 @@ after S (e ∷ es) W = after S es (step S e W)
 -- ---- its setting
 
 -- the first group line; "a second group line" is refused
-abbrev pub or_else : Line → Line → Line
-or_else (event.GroupIs core least) e = event.GroupIs core least
-or_else event.NoEvent e = e
-or_else (event.ViewIs v m) e = e
-or_else (event.Enter h v) e = e
-or_else (event.GiveState to from which) e = e
-or_else (event.Decide h) e = e
-or_else (event.GiveAttempt to from which) e = e
-or_else (event.Form h) e = e
-or_else (event.Cut h k) e = e
-or_else (event.Recover h) e = e
+abbrev pub or_else : Option Line → Option Line → Option Line
+or_else (Some (event.GroupIs core least)) e = Some (event.GroupIs core least)
+or_else None e = e
+or_else (Some (event.ViewIs v m)) e = e
+or_else (Some (event.Enter h v)) e = e
+or_else (Some (event.GiveState d)) e = e
+or_else (Some (event.Decide h)) e = e
+or_else (Some (event.GiveAttempt d)) e = e
+or_else (Some (event.Form h)) e = e
+or_else (Some (event.Cut h k)) e = e
+or_else (Some (event.Recover h)) e = e
 
-unfoldable pub group_line : List (List ℕ) → Line
-group_line [] = event.NoEvent
+unfoldable pub group_line : List (List ℕ) → Option Line
+group_line [] = None
 group_line (l ∷ ls) = or_else (event_in l) (group_line ls)
 
 -- W0 and Q are the group line's, and a view number stands for the heads that were announced with it, for none where it was not
 pub record SettingOf (ls : List (List ℕ)) (views : List ℕ) (S : Setting) : Type 0 where
   pub given : ℕ
-  pub group : group_line ls ≡ event.GroupIs S.core given
+  pub group : group_line ls ≡ Some (event.GroupIs S.core given)
   pub takes : taken_least given ≡ S.least
   pub members : (v : ℕ) → S.members v ≡ members_of v views
 

@@ -1,7 +1,7 @@
 // The program between two reads: what is held of a line that was begun, one read, and one write.
 #![tactic(auto)]
 
-ghost use Rattle.std.specs.Prelude.{◌≡◌, ◌+◌, ◌≤◌, ◌<◌, length, take};
+ghost use Rattle.std.specs.Prelude.{◌≡◌, ◌≢◌, ℕ, ◌+◌, ◌≤◌, ◌<◌, length, take, slice_index, MatchOption};
 ghost use Rattle.reading.specs.Reading.{first_world, at_read, held_count, Between, lines_end, after_read, Filled, after_write, Later};
 
 use asking::World;
@@ -18,28 +18,27 @@ pub fn first_world() -> World
         put: 0,
         views: 0,
         formed: 0,
-        starting: 0,
         grouped: false,
-        core: 0,
-        least: 0,
         end: 0,
         turns: u64::MAX,
     }
 }
 
-// The end of the last whole line among the first n bytes.
-fn last_end(buf: &[u8], n: usize) -> usize
-    requires { n ≤ length buf.now }
-    ensures { result ≡ lines_end (take n buf.now) }
+// Where the last newline stands.
+fn last_newline(s: &[u8]) -> Option<usize>
+    ensures { MatchOption result ((k : ℕ) → k < length s.now → slice_index s.now k ≢ 10) (λ i. (i < length s.now) × (slice_index s.now i ≡ 10) × ((k : ℕ) → i < k → k < length s.now → slice_index s.now k ≢ 10)) }
 {
-    let mut i = n;
-    while 0 < i {
-        if buf[i - 1] == 10 {
-            return i;
-        }
-        i -= 1;
+    s.iter().rposition(|b| *b == 10)
+}
+
+// The end of the last whole line.
+fn last_end(s: &[u8]) -> usize
+    ensures { result ≡ lines_end s.now }
+{
+    match last_newline(s) {
+        Some(i) => i + 1,
+        None => 0,
     }
-    0
 }
 
 // How many bytes of a line that was begun are held.
@@ -47,24 +46,21 @@ fn held_of(w: World) -> usize
     requires { w.stop ≤ w.end }
     ensures { (result ≡ held_count w) × (w.stop + result ≤ w.end) × (result ≤ 15) }
 {
-    let n = w.end - w.stop;
-    if n < 15 {
-        return n;
-    }
-    15
+    (w.end - w.stop).min(15)
 }
 
 // The world after a read: end bytes lie in the buffer, and the lines up to stop end.
 fn at_read(w: World, stop: usize, end: usize, turns: u64) -> World
     ensures { result ≡ at_read w stop end turns }
 {
-    let mut r = w;
-    r.at = 0;
-    r.put = 0;
-    r.stop = stop;
-    r.end = end;
-    r.turns = turns;
-    r
+    World {
+        at: 0,
+        put: 0,
+        stop,
+        end,
+        turns,
+        ..w
+    }
 }
 
 // The world after a read that answered got: how many bytes it brought, or `None` where it failed. One that brings bytes takes one off the reads left to make; one that brings none ends the run.
@@ -78,8 +74,7 @@ fn after_read(buf: &[u8], w: World, got: Option<usize>) -> World
         return at_read(w, 0, held, 0);
     }
     let end = held + n;
-    let stop = last_end(buf, end);
-    at_read(w, stop, end, w.turns - 1)
+    at_read(w, last_end(&buf[..end]), end, w.turns - 1)
 }
 
 // One read, after what is held of a line that was begun. A read that fails ends the run, as one that brings nothing does.
@@ -100,9 +95,7 @@ fn after_write(w: World, all: bool) -> World
     if all {
         return w;
     }
-    let mut r = w;
-    r.turns = 0;
-    r
+    World { turns: 0, ..w }
 }
 
 // Writes what the lines of a read print.

@@ -3,15 +3,15 @@
 
 ghost use Rattle.std.specs.Prelude.{◌≡◌, ◌<◌, length, replicate};
 ghost use Rattle.seat.specs.Seat.{empty_seat};
-ghost use Rattle.seat.specs.Played.{did, played_by};
+ghost use Rattle.worlds.specs.Bench.{start_last, all_started};
 ghost use Rattle.worlds.specs.Desk.{bench_of, Ready, Turned, Fed};
 ghost use Rattle.table.specs.Acts.{Acted};
 
 use asking::{Order, World, asked};
-use deeds::Deed;
+use deeds::{Deed, What};
 use group::Group;
 use noting::told;
-use seat::{Next, Seat, empty_seat, played};
+use seat::{Seat, empty_seat, played, starts};
 
 // Sixteen heads before their group line.
 pub fn new_table() -> [Seat; Group::HEADS]
@@ -20,38 +20,34 @@ pub fn new_table() -> [Seat; Group::HEADS]
     [empty_seat(); Group::HEADS]
 }
 
-// The head that an order is for, and the head that it hears.
-fn to_head(o: Order) -> usize
-    ensures { result ≡ o.to }
-{
-    o.to
-}
-
-fn from_head(o: Order) -> usize
-    ensures { result ≡ o.from }
-{
-    o.from
-}
-
-// What the head does by the order.
-fn played_by(o: Order, h: Seat, g: Seat) -> Next
-    requires { o.to < 16 }
-    ensures { did result ≡ played_by o.to h g o.what }
-{
-    let what = o.what;
-    played(o.to, h, g, what)
-}
-
 // One head acts, hearing another, and its place in the table is stored.
 pub fn act(table: &mut [Seat], o: Order) -> Deed
-    requires { (o.to < 16) × ((o.to < length table.old) × (o.from < length table.old)) }
+    requires { (o.to < length table.old) × (o.from < length table.old) }
     ensures { Acted table.old table.new o result }
 {
-    let to = to_head(o);
-    let from = from_head(o);
-    let n = played_by(o, table[to], table[from]);
-    table[to] = n.seat;
+    let n = played(table[o.to], table[o.from], o.what);
+    table[o.to] = n.seat;
     n.deed
+}
+
+// A group line starts all sixteen heads, one after the other.
+fn start_all(table: &mut [Seat], core: u16, least: u8)
+    requires { length table.old ≡ 16 }
+    ensures { table.new ≡ start_last core least 16 table.old }
+{
+    for (p, seat) in table.iter_mut().enumerate() {
+        *seat = starts(*seat, p, core, least).seat;
+    }
+}
+
+// What a group line does to the table besides; of other events nothing.
+fn open(table: &mut [Seat], what: What)
+    requires { length table.old ≡ 16 }
+    ensures { table.new ≡ all_started what table.old }
+{
+    if let What::Open { core, least } = what {
+        start_all(table, core, least);
+    }
 }
 
 // One turn of the bench: what the next line asks, what the head does, what is kept and printed of it.
@@ -69,6 +65,7 @@ pub fn turn(
 {
     let o = asked(views, s, w);
     let d = act(table, o);
+    open(table, o.what);
     told(formed, out, w, o, d)
 }
 

@@ -1,5 +1,5 @@
 -- The bench as a whole: what it knows, and what an event line does to it. Document 02, Item 1.
-use Rattle.std.specs.Prelude.{Bool, true, false, ◌||◌, List, [], ◌∷◌, ◌++◌, ℕ, zero, suc, ◌-◌, get_or, set, replicate}
+use Rattle.std.specs.Prelude.{Bool, true, false, ◌||◌, List, [], ◌∷◌, ◌++◌, ℕ, zero, suc, ◌-◌, get_or, set, replicate, Option, None}
 use Rattle.group.specs.Words.{session}
 use Rattle.lines.specs.Walk.{lines_of}
 use Rattle.events.specs.declared.Event.{Event}
@@ -28,7 +28,7 @@ pub record Bench : Type 0 where
 
 -- head i; past the end of the table there is none
 abbrev pub seat_at : List Seat → ℕ → Seat
-seat_at t i = get_or t i (record { words = []; session = record { stage = 0; view = 0; members = 0; states = 0; attempts = 0; held = record { of = [] } }; sent = []; armed = false; stores = 0 })
+seat_at t i = get_or t i (record { words = []; session = record { stage = 0; view = 0; members = 0; states = 0; attempts = 0; held = record { of = [] } }; sent = []; cut = None })
 
 -- the last n heads started, one after the other
 unfoldable pub start_last : ℕ → ℕ → ℕ → List Seat → List Seat
@@ -41,7 +41,6 @@ abbrev pub opens : What → Bool
 opens (what.Refuse n) = false
 opens (what.Announce v m) = false
 opens (what.Open core least) = true
-opens (what.Start core least) = false
 opens (what.Enter view m) = false
 opens (what.HearState which) = false
 opens (what.HearAttempt which) = false
@@ -55,7 +54,6 @@ abbrev pub all_started : What → List Seat → List Seat
 all_started (what.Refuse n) t = t
 all_started (what.Announce v m) t = t
 all_started (what.Open core least) t = start_last core least 16 t
-all_started (what.Start core least) t = t
 all_started (what.Enter view m) t = t
 all_started (what.HearState which) t = t
 all_started (what.HearAttempt which) t = t
@@ -69,7 +67,6 @@ abbrev pub new_views : What → List ℕ
 new_views (what.Refuse n) = []
 new_views (what.Announce v m) = session v m ∷ []
 new_views (what.Open core least) = []
-new_views (what.Start core least) = []
 new_views (what.Enter view m) = []
 new_views (what.HearState which) = []
 new_views (what.HearAttempt which) = []
@@ -80,7 +77,7 @@ new_views (what.Arm k) = []
 
 -- head `to` acts, hearing head `from`, and the bench keeps what it is to keep
 unfoldable pub acts : ℕ → ℕ → What → Bench → Played
-acts to from w b = played_by to (seat_at b.table to) (seat_at b.table from) w
+acts to from w b = played_by (seat_at b.table to) (seat_at b.table from) w
 
 unfoldable pub obeyed : ℕ → ℕ → What → Bench → Bench
 obeyed to from w b = record {
@@ -91,7 +88,7 @@ obeyed to from w b = record {
   text = b.text ++ told_text (acts to from w b).reply;
 }
 
-unfoldable pub happens : Event → Bench → Bench
+unfoldable pub happens : Option Event → Bench → Bench
 happens e b = obeyed (to_of e) (from_of e) (what_of e b.grouped b.views) b
 
 -- ---- lines

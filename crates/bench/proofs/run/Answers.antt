@@ -1,5 +1,5 @@
 -- A read leaves the lists and the world ready for its lines; what those lines come to, and the write of what they print, leave them calm again.
-use Rattle.std.proofs.Common.{length, ap, sym, ◌∙◌}
+use Rattle.std.proofs.Common.{ℕ, length, ap, ◌∙◌}
 use Rattle.std.proofs.lemmas.List.{length-replicate}
 use Rattle.seat.specs.Seat.{empty_seat}
 use Rattle.bench.proofs.Laws.{calm-first, calm-between, ready-now, put-fits, calm-after, fewer-after}
@@ -8,8 +8,8 @@ use Rattle.bench.proofs.run.Goals as goal
 pub loop-w-init : goal.loop-w-init
 loop-w-init g c =
     let t = c.new_table-table in
-    calm-first t.result c.view_room-views.result c.session_room-formed.result c.input-buf.result c.output-out.result c.first_world-w.result c.first_world-w.ensures
-    (ap length t.ensures ∙ length-replicate 16 empty_seat) (sym c.view_room-views.ensures) (sym c.session_room-formed.ensures) (sym c.input-buf.ensures) (sym c.output-out.ensures)
+    calm-first t.result _ _ _ _ c.first_world-w.result c.first_world-w.ensures
+    (ap length t.ensures ∙ length-replicate 16 empty_seat) (length-replicate {A = ℕ} 1000 0) (length-replicate {A = ℕ} 1001 0) (length-replicate {A = ℕ} 8192 0) (length-replicate {A = ℕ} 196608 0)
 
 pub filled-w-requires : goal.filled-w-requires
 filled-w-requires g c =

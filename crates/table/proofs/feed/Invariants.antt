@@ -1,9 +1,9 @@
 -- Before each turn the lists are ready, what the lines left would make of the bench is what all lines make of it at first, and each turn is nearer the end.
-use Rattle.std.proofs.Common.{◌≡◌, []}
+use Rattle.std.proofs.Common.{◌≡◌, [], ◌-◌}
 use Rattle.lines.specs.Walk.{whole_lines}
 use Rattle.asking.specs.Asking.{left}
 use Rattle.worlds.specs.Bench.{played}
-use Rattle.worlds.specs.Desk.{bench_of, Ready, SamePart, to_go}
+use Rattle.worlds.specs.Desk.{bench_of, Ready, SamePart}
 use Rattle.table.proofs.feed.Given as goal
 
 abbrev pub invariant-loop-w : goal.invariant-loop-w
@@ -15,4 +15,4 @@ invariant-loop-w l = record {
 }
 
 abbrev pub decreases-loop-w : goal.decreases-loop-w
-decreases-loop-w l = to_go l.w
+decreases-loop-w l = l.w.stop - l.w.at

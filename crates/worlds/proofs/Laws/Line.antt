@@ -29,7 +29,7 @@ drop_of_take (suc n) (suc m) (x ∷ l) = let e : suc m - suc n ≡ m - n = omega
 
 -- from the place after the next line the rest of what is left stands
 pub left-next : (s : List ℕ) (w r : World) → r.stop ≡ w.stop → r.at ≡ next_now s w → left s r ≡ rest_of (left s w)
-unfolding left rest_of next_now
+unfolding rest_of
 left-next s w r e f =
     let n = line_end (take (w.stop - w.at) (drop w.at s)) in
     let k : w.stop - (w.at + n + 1) ≡ w.stop - w.at - suc n = omega arith in
@@ -39,7 +39,7 @@ left-next s w r e f =
 -- the next line is taken, and the others are those of the rest
 pub played-first : (s : List ℕ) (w r : World) (b : Bench) → line_end (left s w) < length (left s w) → r.stop ≡ w.stop → r.at ≡ next_now s w
     → played (whole_lines [] (left s r)) (taken (line_now s w) b) ≡ played (whole_lines [] (left s w)) b
-unfolding played line_now
+unfolding played
 played-first s w r b h e f =
     ap (λ (x : List ℕ). played (whole_lines [] x) (taken (first_of (left s w)) b)) (left-next s w r e f)
     ∙ sym (ap (λ (ls : List (List ℕ)). played ls b) (first-whole [] (left s w) h).whole)
