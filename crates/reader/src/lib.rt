@@ -3,9 +3,10 @@
 
 mod field;
 
-ghost use Rattle.std.specs.Prelude.{◌≡◌, true, ◌+◌, ◌*◌, ◌≤◌, ◌<◌, length, MatchOption};
+ghost use Rattle.std.specs.Prelude.{◌≡◌, true, false, ◌+◌, ◌*◌, ◌≤◌, ◌<◌, length, MatchOption, MatchResult};
+ghost use Rattle.state.specs.declared.rules.Rule.TheVariants.{Head};
 ghost use Rattle.lines.specs.Hex.{unhex, line_end, line_of, rest_of};
-ghost use Rattle.lines.specs.Reading.{rule1, rule3, kind_of, count_of, state_of, judged, read_line, read_whole, read_of};
+ghost use Rattle.lines.specs.Reading.{rule1, rule3, kind_of, view_of, sender_of, count_of, state_of, judged, read_line, read_whole, read_of};
 
 use crate::field::{four_at, six_at, words_at};
 use group::Group;
@@ -13,12 +14,17 @@ use hexadecimal::{digits, line_end, put_frame};
 use lines::Frame;
 use state::{Rule, State, broken};
 
-// Rule 3: view and sender.
-fn head_ok(f: &[u8]) -> bool
+// Rule 3, and the view and the sender that it judges.
+fn head_of(f: &[u8]) -> Result<(u32, u8), Rule>
     requires { 6 ≤ length f.now }
-    ensures { result ≡ rule3 f.now }
+    ensures { MatchResult result (λ head. (rule3 f.now ≡ true) × (head.0 ≡ view_of f.now) × (head.1 ≡ sender_of f.now)) (λ rule. (rule3 f.now ≡ false) × (rule ≡ Head)) }
 {
-    !(four_at(f, 1) == 0) & (f[5] <= Group::LAST)
+    let view = four_at(f, 1);
+    let sender = f[5];
+    if view == 0 || sender > Group::LAST {
+        return Err(Rule::Head);
+    }
+    Ok((view, sender))
 }
 
 // The state in a frame of the right length.
@@ -26,17 +32,13 @@ fn state_of(f: &[u8]) -> State
     requires { (count_of f.now ≤ 16) × (length f.now ≡ 113 + 6 * count_of f.now) }
     ensures { result ≡ state_of f.now }
 {
-    let number = four_at(f, 6);
-    let primary = six_at(f, 10);
-    let formed = words_at(f, 16, Group::HEADS);
-    let count = f[112] as usize;
-    let places = words_at(f, 113, count);
+    let count = usize::from(f[112]);
     State {
-        number,
-        primary,
-        formed,
+        number: four_at(f, 6),
+        primary: six_at(f, 10),
+        formed: words_at(f, 16, Group::HEADS),
         count,
-        places,
+        places: words_at(f, 113, count),
     }
 }
 
@@ -48,13 +50,8 @@ fn judge_attempt(l: &[u8], f: &[u8]) -> Result<Frame, Rule>
     if l.len() != 12 {
         return Err(Rule::Length);
     }
-    if !head_ok(f) {
-        return Err(Rule::Head);
-    }
-    Ok(Frame::Attempt {
-        view: four_at(f, 1),
-        sender: f[5],
-    })
+    let (view, sender) = head_of(f)?;
+    Ok(Frame::Attempt { view, sender })
 }
 
 // A line of kind 1, and its frame.
@@ -62,24 +59,18 @@ fn judge_state(l: &[u8], f: &[u8]) -> Result<Frame, Rule>
     requires { (rule1 l.now ≡ true) × (kind_of (unhex l.now) ≡ 1) × (f.now ≡ unhex l.now) }
     ensures { read_of result ≡ judged l.now }
 {
-    if l.len() < 226 {
+    let Some(count) = f.get(112) else {
+        return Err(Rule::Length);
+    };
+    let count = usize::from(*count);
+    if count > Group::PLACES || l.len() != 226 + 12 * count {
         return Err(Rule::Length);
     }
-    let count = f[112] as usize;
-    if Group::PLACES < count {
-        return Err(Rule::Length);
-    }
-    if l.len() != 226 + 12 * count {
-        return Err(Rule::Length);
-    }
-    if !head_ok(f) {
-        return Err(Rule::Head);
-    }
+    let (view, sender) = head_of(f)?;
     let state = state_of(f);
-    let sender = f[5];
-    broken(&state, sender as usize)?;
+    broken(&state, usize::from(sender))?;
     Ok(Frame::State {
-        view: four_at(f, 1),
+        view,
         sender,
         state,
     })
@@ -87,11 +78,13 @@ fn judge_state(l: &[u8], f: &[u8]) -> Result<Frame, Rule>
 
 // A line of digits, and its frame.
 fn judge_frame(l: &[u8], f: &[u8]) -> Result<Frame, Rule>
-    requires { (rule1 l.now ≡ true) × (2 ≤ length l.now) × (f.now ≡ unhex l.now) }
+    requires { (rule1 l.now ≡ true) × (f.now ≡ unhex l.now) }
     ensures { read_of result ≡ judged l.now }
 {
-    let kind = f[0];
-    match kind {
+    let Some(kind) = f.first() else {
+        return Err(Rule::Length);
+    };
+    match *kind {
         1 => judge_state(l, f),
         2 => judge_attempt(l, f),
         _ => Err(Rule::Length),
@@ -111,19 +104,15 @@ pub fn judge(l: &[u8]) -> Result<Frame, Rule>
     if !digits(l) {
         return Err(Rule::Digits);
     }
-    if l.len() < 2 {
+    if l.len() > MOST {
         return Err(Rule::Length);
     }
-    if MOST < l.len() {
-        return Err(Rule::Length);
-    }
-    let mut frame = [0u8; FRAME];
+    let mut frame = [0; FRAME];
     put_frame(l, &mut frame);
-    let n = l.len() / 2;
-    judge_frame(l, &frame[..n])
+    judge_frame(l, &frame[..l.len() / 2])
 }
 
-// The first line without its newline, and what comes after it; none if there is no newline.
+// The first line without its newline, and what comes after it; none if there is no newline. Inlined: the answer is two slices, which a call puts in memory.
 #[inline(always)]
 pub fn split_line(s: &[u8]) -> Option<(&[u8], &[u8])>
     ensures { MatchOption result (length s.now ≤ line_end s.now) (λ p. (line_end s.now < length s.now) × (p.0.now ≡ line_of s.now) × (p.1.now ≡ rest_of s.now)) }
