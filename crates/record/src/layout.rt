@@ -1,10 +1,11 @@
 // Which word of the record holds what: its fields, their stores under a pen, and their writes in a copy. No other file knows it.
-#![tactic(auto, using(crate::proofs::Laws::Words::slices, crate::proofs::Laws::Words::fields), unfolding(crate::specs::Layout::settings, crate::specs::Layout::core, crate::specs::Layout::least, crate::specs::Layout::own, crate::specs::Layout::entered, crate::specs::Layout::number, crate::specs::Layout::primary, crate::specs::Layout::formed_for, crate::specs::Layout::place_at, crate::specs::Layout::marks_at, crate::specs::Layout::formed, crate::specs::Layout::places, crate::specs::Layout::marks, store::specs::Desk::stored,))]
+#![tactic(auto, using(crate::proofs::Laws::Words::slices, crate::proofs::Laws::Words::fields), unfolding(crate::specs::Layout::settings, crate::specs::Layout::core, crate::specs::Layout::least, crate::specs::Layout::own, crate::specs::Layout::entered, crate::specs::Layout::number, crate::specs::Layout::primary, crate::specs::Layout::formed_for, crate::specs::Layout::place_at, crate::specs::Layout::marks_at, crate::specs::Layout::formed, crate::specs::Layout::places, crate::specs::Layout::marks, crate::specs::Layout::store_entered, crate::specs::Layout::store_number, crate::specs::Layout::store_primary, crate::specs::Layout::store_formed, crate::specs::Layout::store_place, crate::specs::Layout::store_marks, store::specs::Desk::stored))]
 
-ghost use Rattle.std.specs.Prelude.{◌≡◌, ◌<◌};
+ghost use Rattle.std.specs.Prelude.{◌≡◌, ◌+◌, ◌<◌, ◌≤◌};
+ghost use Rattle.loops.specs.Below.{table};
 ghost use Rattle.store.specs.Desk.{desk, stored, put_to, run, store_if, where_changed};
 ghost use Rattle.store.specs.Program.{exec};
-ghost use Rattle.record.specs.Layout.{settings, core, least, own, entered, number, primary, formed_for, place_at, marks_at, formed, places, marks, field_store, field_at, InRecord};
+ghost use Rattle.record.specs.Layout.{word, settings, core, least, own, entered, number, primary, formed_for, place_at, marks_at, formed, places, marks, field_store, field_at, InRecord};
 ghost use Rattle.record.specs.Replacing.{store_record};
 
 use group::Group;
@@ -24,8 +25,7 @@ pub enum Field {
 }
 
 impl Field {
-    // The word that holds it.
-    #[tactic(auto, unfolding(crate::specs::Layout::store_entered, crate::specs::Layout::store_number, crate::specs::Layout::store_primary, crate::specs::Layout::store_formed, crate::specs::Layout::store_place, crate::specs::Layout::store_marks,))]
+    // Which word holds it: no other function knows, but that word 0 is the settings.
     fn at(self) -> usize
         requires { InRecord self }
         ensures { result ≡ field_at self }
@@ -39,6 +39,23 @@ impl Field {
             Field::Marks(i) => 36 + i,
         }
     }
+}
+
+// The word of a field.
+fn word(rec: &Record, field: Field) -> u64
+    requires { InRecord field }
+    ensures { result ≡ word rec.now (field_at field) }
+{
+    rec[field.at()]
+}
+
+// The sixteen words from a field on.
+fn sixteen(rec: &Record, first: Field) -> &[u64]
+    requires { InRecord first × (field_at first ≤ 36) }
+    ensures { result.now ≡ table 16 (λ i. word rec.now (field_at first + i)) }
+{
+    let at = first.at();
+    &rec[at..at + Group::HEADS]
 }
 
 // W0, Q and own head, in one word.
@@ -73,21 +90,21 @@ pub fn own(rec: &Record) -> usize
 pub fn entered(rec: &Record) -> u64
     ensures { result ≡ entered rec.now }
 {
-    rec[1]
+    word(rec, Field::Entered)
 }
 
 // The session number.
 pub fn number(rec: &Record) -> u64
     ensures { result ≡ number rec.now }
 {
-    rec[2]
+    word(rec, Field::Number)
 }
 
 // Last primary.
 pub fn primary(rec: &Record) -> u64
     ensures { result ≡ primary rec.now }
 {
-    rec[3]
+    word(rec, Field::Primary)
 }
 
 // Last formed for head q.
@@ -95,7 +112,7 @@ pub fn formed_for(rec: &Record, q: usize) -> u64
     requires { q < 16 }
     ensures { result ≡ formed_for rec.now q }
 {
-    rec[4 + q]
+    word(rec, Field::Formed(q))
 }
 
 // Place i.
@@ -103,7 +120,7 @@ pub fn place_at(rec: &Record, i: usize) -> u64
     requires { i < 16 }
     ensures { result ≡ place_at rec.now i }
 {
-    rec[20 + i]
+    word(rec, Field::Place(i))
 }
 
 // The marks of place i.
@@ -111,26 +128,26 @@ pub fn marks_at(rec: &Record, i: usize) -> u64
     requires { i < 16 }
     ensures { result ≡ marks_at rec.now i }
 {
-    rec[36 + i]
+    word(rec, Field::Marks(i))
 }
 
 // The sixteen of a kind, in order.
 pub fn formed(rec: &Record) -> &[u64]
     ensures { result.now ≡ formed rec.now }
 {
-    &rec[4..20]
+    sixteen(rec, Field::Formed(0))
 }
 
 pub fn places(rec: &Record) -> &[u64]
     ensures { result.now ≡ places rec.now }
 {
-    &rec[20..36]
+    sixteen(rec, Field::Place(0))
 }
 
 pub fn marks(rec: &Record) -> &[u64]
     ensures { result.now ≡ marks rec.now }
 {
-    &rec[36..52]
+    sixteen(rec, Field::Marks(0))
 }
 
 pub fn put(rec: &mut Record, pen: Pen, field: Field, w: u64) -> Pen

@@ -18,25 +18,12 @@ use Rattle.record.specs.Replacing.{store_record}
 
 -- ---- a slice of the record is a table of its words
 
-part_table : (base n : ℕ) (r : List ℕ) → base + n ≤ length r → take n (drop base r) ≡ table n (λ i. word r (base + i))
+pub part_table : (base n : ℕ) (r : List ℕ) → base + n ≤ length r → take n (drop base r) ≡ table n (λ i. word r (base + i))
 part_table base n r h =
     table_is n _ 0 (take n (drop base r)) (length-take-le n (drop base r) (rw length-drop (omega arith)))
     (λ i l. get_or-take n (drop base r) i 0 l ∙ get_or-drop base r i 0)
 
-module _ (r : List ℕ) (long : length r ≡ 52) where
-  pub formed_slice : take 16 (drop 4 r) ≡ formed r
-  unfolding formed formed_for
-  formed_slice = part_table 4 16 r (omega arith)
-
-  pub places_slice : take 16 (drop 20 r) ≡ places r
-  unfolding places place_at
-  places_slice = part_table 20 16 r (omega arith)
-
-  pub marks_slice : take 16 (drop 36 r) ≡ marks r
-  unfolding marks marks_at
-  marks_slice = part_table 36 16 r (omega arith)
-
-pub ruleset slices = (formed_slice, places_slice, marks_slice)
+pub ruleset slices = part_table
 
 -- and reads so
 
