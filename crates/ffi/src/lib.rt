@@ -41,5 +41,5 @@ pub extern "C" fn head_recover(words: &mut [u64], stores: u64) -> u8
 pub extern "C" fn head_whole(words: &[u64]) -> u8
     ensures { result ≡ cond (whole words.now) 1 0 }
 {
-    if whole::is_whole(words) { 1 } else { 0 }
+    u8::from(whole::is_whole(words))
 }

@@ -1,10 +1,10 @@
 // Read a line, for C and Rust to link.
-ghost use Rattle.std.specs.Prelude.{◌≡◌, length};
-ghost use Rattle.lines.specs.Hex.{rest_of};
+ghost use Rattle.std.specs.Prelude.{◌≡◌};
+ghost use Rattle.lines.specs.Reading.{read_of};
 ghost use Rattle.ffi.specs.LineRead.{as_numbers, line_read};
 
-use lines::Line;
-use state::State;
+use lines::Frame;
+use state::{Rule, State, no_state};
 
 #[repr(C)]
 #[derive(Clone, Copy)]
@@ -17,11 +17,18 @@ pub struct LineRead {
     pub state: State,
 }
 
-fn as_numbers(line: Line, state: State, left: usize) -> LineRead
-    ensures { result ≡ as_numbers line state left }
+#[tactic(auto, unfolding(lines::specs::Reading::breaks))]
+fn as_numbers(read: Result<Frame, Rule>, left: usize) -> LineRead
+    ensures { result ≡ as_numbers (read_of read).line (read_of read).state left }
 {
-    match line {
-        Line::StateLine { view, sender } => LineRead {
+    match read {
+        Ok(
+            Frame::State {
+                view,
+                sender,
+                state,
+            },
+        ) => LineRead {
             kind: 1,
             rule: 0,
             sender,
@@ -29,40 +36,30 @@ fn as_numbers(line: Line, state: State, left: usize) -> LineRead
             left,
             state,
         },
-        Line::AttemptLine { view, sender } => LineRead {
+        Ok(Frame::Attempt { view, sender }) => LineRead {
             kind: 2,
             rule: 0,
             sender,
             view,
             left,
-            state,
+            state: no_state(),
         },
-        Line::Broken { rule } => LineRead {
+        Err(rule) => LineRead {
             kind: 0,
-            rule,
+            rule: u8::from(rule),
             sender: 0,
             view: 0,
             left,
-            state,
+            state: no_state(),
         },
     }
 }
 
-fn left_after(bytes: &[u8]) -> usize
-    ensures { result ≡ length (rest_of bytes.now) }
-{
-    let rest = hexadecimal::rest(bytes);
-    rest.len()
-}
-
 // Judges the first line of the lent bytes.
+#[tactic(auto, unfolding(crate::specs::LineRead::line_read))]
 #[unsafe(no_mangle)]
 pub extern "C" fn head_read_line(bytes: &[u8]) -> LineRead
     ensures { result ≡ line_read bytes.now }
 {
-    let read = reader::read_line(bytes);
-    let left = left_after(bytes);
-    let line = read.line;
-    let state = read.state;
-    as_numbers(line, state, left)
+    as_numbers(reader::read_line(bytes), hexadecimal::rest(bytes).len())
 }

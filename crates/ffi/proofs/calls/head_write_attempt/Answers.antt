@@ -1,7 +1,7 @@
--- The end in numbers is that of the call (`ends-lined`).
-use Rattle.ffi.proofs.Laws.Ends.{ends-lined}
+-- The session handed back is the one that the call was given (`attempt-hands-back`).
+use native.Mathlib.Omega.{arith}
 use Rattle.head.proofs.Laws.Writing.{attempt-hands-back}
 use Rattle.ffi.proofs.calls.head_write_attempt.Goals as goal
 
 pub returns : goal.returns
-returns c = ends-lined _ c.write_attempt-next.result _ _ _ _ c.code.ensures c.length_of.ensures c.write_attempt-next.ensures (attempt-hands-back _ _ _)
+returns c = grind (arith, attempt-hands-back c.args.session c.args.words.now c.args.out.now)

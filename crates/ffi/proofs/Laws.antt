@@ -1,2 +1,0 @@
--- The laws, one file for what they are about.
-pub mod Ends
