@@ -16,6 +16,7 @@ pub struct State {
     pub number: u32,
     pub primary: u64,
     pub formed: [u64; Group::HEADS],
+    // How many of the places count stands beside them, as in the interface of C.
     pub count: usize,
     pub places: [u64; Group::PLACES],
 }
@@ -27,23 +28,24 @@ pub struct Held {
     pub of: [State; Group::HEADS],
 }
 
+#[tactic(auto, unfolding(crate::specs::Values::no_state))]
 pub fn no_state() -> State
     ensures { result ≡ no_state }
 {
     State {
         number: 0,
         primary: 0,
-        formed: [0u64; Group::HEADS],
+        formed: [0; Group::HEADS],
         count: 0,
-        places: [0u64; Group::PLACES],
+        places: [0; Group::PLACES],
     }
 }
 
+#[tactic(auto, unfolding(crate::specs::Values::nothing_held))]
 pub fn nothing_held() -> Held
     ensures { result ≡ nothing_held }
 {
-    let none = no_state();
     Held {
-        of: [none; Group::HEADS],
+        of: [no_state(); Group::HEADS],
     }
 }

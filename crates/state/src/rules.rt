@@ -85,6 +85,7 @@ fn formed_kept(own: usize, p: u64, words: &[u64; Group::HEADS]) -> bool
 }
 
 // A place of head own with last primary p, after the place before it.
+#[tactic(auto, unfolding(crate::specs::Rules::place_ok))]
 fn place_ok(own: usize, p: u64, before: u64, w: u64) -> bool
     requires { own < 16 }
     ensures { result ≡ place_ok own p before w }
@@ -113,6 +114,7 @@ fn rule4(st: &State) -> bool
     sound(st.primary) & all_sound(&st.formed) & all_sound(&st.places[..st.count])
 }
 
+#[tactic(auto, unfolding(crate::specs::Rules::rule5))]
 fn rule5(st: &State, sender: usize) -> bool
     requires { sender < 16 }
     ensures { result ≡ rule5_of st.now sender }
@@ -131,7 +133,7 @@ fn rule7(st: &State) -> bool
     requires { st.now.count ≤ 16 }
     ensures { result ≡ rule7_of st.now }
 {
-    let top = st.number as u64;
+    let top = u64::from(st.number);
     (number_of(st.primary) <= top)
         & all_within(&st.formed, top)
         & all_within(&st.places[..st.count], top)
@@ -142,10 +144,10 @@ fn places_kept(st: &State, sender: usize) -> bool
     requires { (sender < 16) × (st.now.count ≤ 16) }
     ensures { result ≡ (leb (num (prior st.now.places st.now.count)) st.now.number && rule6_of st.now sender) }
 {
-    if st.count == 0 {
-        return true;
+    match st.places[..st.count].last() {
+        Some(last) => (number_of(*last) <= u64::from(st.number)) & rule6(st, sender),
+        None => true,
     }
-    (number_of(st.places[st.count - 1]) <= st.number as u64) & rule6(st, sender)
 }
 
 // The state keeps rules 4 to 7, by those of their tests from which the others follow. `fit` answers rule 5's test of last formed, which is asked of lines that are read without branches and of held states with them.
@@ -154,10 +156,11 @@ fn keeps_all(st: &State, sender: usize, fit: bool) -> bool
     ensures { result ≡ eqb (broken_of st.now sender) 0 }
 {
     let p = st.primary;
-    (number_of(p) <= st.number as u64) & primary_ok(sender, p) & fit & places_kept(st, sender)
+    (number_of(p) <= u64::from(st.number)) & primary_ok(sender, p) & fit & places_kept(st, sender)
 }
 
 // The first of rules 4 to 7 that the state breaks, each rule by all of its tests.
+#[tactic(auto, unfolding(crate::specs::Rules::broken))]
 fn first_broken(st: &State, sender: usize) -> Result<(), Rule>
     requires { (sender < 16) × (st.now.count ≤ 16) }
     ensures { rule_number result ≡ broken_of st.now sender }

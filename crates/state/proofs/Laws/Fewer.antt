@@ -1,14 +1,15 @@
 -- Rules 5 and 6, and that neither last primary's number nor the last place's is above the session number, are all of rules 4 to 7: a session with a head is
 -- sound, a last formed's number is at most last primary's, and places rise.
-use mathlib.Core.Path.{◌≡◌, refl}
+use mathlib.Core.Path.{◌≡◌}
 use mathlib.Core.Bool.{true, ◌&&◌}
 use mathlib.Core.List.{List}
 use mathlib.Core.Logic.{⊎_elim}
 use Prim.Native.Nat.{ℕ, zero, suc, ◌-◌, ◌≤◌, ◌<◌}
-use native.Mathlib.Nat.{not-suc-le-zero}
+use native.Mathlib.Nat.{not-suc-le-zero, lt_irrefl}
 use native.Mathlib.Omega.{arith}
 use borrow.Author.Tests.{leb-true, le-leb, eqb-true}
-use lib.ListN.{get_or}
+use lib.ListN.{length, take, get_or}
+use lib.Seq.{length-take-le, get_or-take}
 use lib.Dec.{leb, eqb}
 use Rattle.loops.specs.Below.{all_below}
 use Rattle.loops.proofs.Laws.Truth.{and_left, and_right, and_both, test-ext}
@@ -28,10 +29,13 @@ unfolding prior
 last-highest places zero top r l i h = absurd (not-suc-le-zero h)
 last-highest places (suc n) top r l i h = ⊎_elim (λ e. rw e l) (λ k. omega (arith, r i n k (omega arith))) (below_suc h)
 
-pub prior-some : (places : List ℕ) (n : ℕ) → (n ≡ 0 → ⊥) → get_or places (n - 1) 0 ≡ prior places n
+pub prior-last : (places : List ℕ) (n : ℕ) → n ≤ length places → 0 < length (take n places)
+    → get_or (take n places) (length (take n places) - 1) 0 ≡ prior places n
 unfolding prior
-prior-some places zero h = absurd (h refl)
-prior-some places (suc n) h = rw (let e : suc n - 1 ≡ n = omega arith in e)
+prior-last places zero h some = absurd (lt_irrefl 0 some)
+prior-last places (suc n) h some =
+    let e : length (take (suc n) places) - 1 ≡ n = omega (arith, length-take-le (suc n) places h) in
+    rw e (get_or-take (suc n) places n 0 (omega arith))
 
 last_within : (places : List ℕ) (n top : ℕ) → ((i : ℕ) → i < n → num (get_or places i 0) ≤ top) → num (prior places n) ≤ top
 unfolding prior

@@ -7,5 +7,5 @@ pub returns : goal.returns
 returns c =
     let n = c.before.before in
     let s = n.before.before in
-    rw (n.number_of.ensures, c.primary_ok.ensures, s.requires.2, c.places_kept.ensures)
+    rw (n.number_of.ensures, n.from.ensures, c.primary_ok.ensures, s.requires.2, c.places_kept.ensures)
     (fewer-tests s.args.st.now s.args.sender (omega arith) (omega arith))
