@@ -22,7 +22,7 @@ use Rattle.store.specs.Program.{Step, step_by, exec, script, up_to}
 use Rattle.store.proofs.Laws.Script.{run_length}
 use Rattle.store.proofs.Laws.Program.{exec-run, exec-append, exec-one, up_to-next, steps-start, steps-again}
 use Rattle.record.specs.Layout.{settings, own, place_at, marks_at, store_marks}
-use Rattle.record.proofs.Laws.Layout.{same-own, not-stored, marks-puts, marks-stored}
+use Rattle.record.proofs.Laws.Layout.{same-own, not-stored, marks-puts, settings-marked}
 use Rattle.state.specs.declared.Held.{Held}
 use Rattle.plan.specs.Members.{held_of, other, formed_with}
 use Rattle.plan.specs.Marks.{to_mark, adding, marked, mark_step}
@@ -71,22 +71,19 @@ unfolding run put_to
 differs-keeps true s d e = refl
 differs-keeps false s d e = put_keeps d.pen s d.rec e
 
-exec-long : (fs : List Step) (d : Desk) → length (exec fs d).rec ≡ length d.rec
-exec-long fs d = ap (λ (e : Desk). length e.rec) (exec-run fs d) ∙ run_length (script fs d.rec) d
-
 module _ (m : ℕ) (held : Held) where
-  mark-keeps : (i : ℕ) (d : Desk) → i < 16 → length d.rec ≡ 52 → settings (step_by (mark_step m held i) d).rec ≡ settings d.rec
+  mark-keeps : (i : ℕ) (d : Desk) → settings (step_by (mark_step m held i) d).rec ≡ settings d.rec
   unfolding step_by mark_step where_changed
-  mark-keeps i d h l =
+  mark-keeps i d =
       let s = store_marks i (marked m held d.rec i) in
-      differs-keeps (eqb (get_or d.rec s.at 0) s.word) (store_marks i (marked m held d.rec i)) d (marks-stored d.rec l i (marked m held d.rec i) h).settings-is
+      differs-keeps (eqb (get_or d.rec s.at 0) s.word) (store_marks i (marked m held d.rec i)) d (settings-marked d.rec i (marked m held d.rec i))
 
-  pub marks-keep : (n : ℕ) (d : Desk) → n ≤ 16 → length d.rec ≡ 52 → settings (exec (up_to n (mark_step m held)) d).rec ≡ settings d.rec
-  marks-keep zero d h l = ap (λ (a : Desk). settings a.rec) (sym (steps-start (mark_step m held) d))
-  marks-keep (suc n) d h l =
+  pub marks-keep : (n : ℕ) (d : Desk) → settings (exec (up_to n (mark_step m held)) d).rec ≡ settings d.rec
+  marks-keep zero d = ap (λ (a : Desk). settings a.rec) (sym (steps-start (mark_step m held) d))
+  marks-keep (suc n) d =
       let e = exec (up_to n (mark_step m held)) d in
       ap (λ (a : Desk). settings a.rec) (ap (λ (fs : List Step). exec fs d) (up_to-next n (mark_step m held)) ∙ exec-append (up_to n (mark_step m held)) (mark_step m held n ∷ []) d ∙ exec-one (mark_step m held n) e)
-      ∙ mark-keeps n e h (exec-long (up_to n (mark_step m held)) d ∙ l) ∙ marks-keep n d (omega arith) l
+      ∙ mark-keeps n e ∙ marks-keep n d
 
 -- ---- marking by what the others offer
 
@@ -116,11 +113,11 @@ module _ (m : ℕ) (held : Held) (offers : List ℕ) where
       (λ q h. rw (offer-told r told q h) (same_test (has (place_at r i) q) (has m q && not (eqb q (own r))) (formed_with held r q) (λ v. ltb (rank v) (rank (place_at r i)))))))
 
   -- the turn of the loop that marks: what others offered before it, they offer still
-  pub marks-again : (r₀ : List ℕ) (p₀ : Pen) (r : List ℕ) (p : Pen) (r' : List ℕ) (p' : Pen) (i : ℕ) → i < 16 → length r₀ ≡ 52
+  pub marks-again : (r₀ : List ℕ) (p₀ : Pen) (r : List ℕ) (p : Pen) (r' : List ℕ) (p' : Pen) (i : ℕ)
       → offers ≡ table 16 (offered m held r₀)
       → desk r p ≡ exec (up_to i (mark_step m held)) (desk r₀ p₀)
       → (offers ≡ table 16 (offered m held r) → desk r' p' ≡ step_by (mark_step m held i) (desk r p))
       → desk r' p' ≡ exec (up_to (i + 1) (mark_step m held)) (desk r₀ p₀)
-  marks-again r₀ p₀ r p r' p' i h l told e f =
-      let same : settings r ≡ settings r₀ = ap (λ (d : Desk). settings d.rec) e ∙ marks-keep m held i (desk r₀ p₀) (omega arith) l in
+  marks-again r₀ p₀ r p r' p' i told e f =
+      let same : settings r ≡ settings r₀ = ap (λ (d : Desk). settings d.rec) e ∙ marks-keep m held i (desk r₀ p₀) in
       steps-again (mark_step m held) (desk r₀ p₀) i e (f (told ∙ offered-same m held r₀ r (sym same)))

@@ -201,3 +201,8 @@ module _ (r : List ℕ) (long : length r ≡ 52) where
     place_is = λ j h. stored_there (store (36 + i) m) r (20 + j) (λ e. omega arith);
     marks-is = one_of 36 16 i m r (omega arith) l;
   }
+
+-- the marks stand apart from word 0, also in a record that is too short
+pub settings-marked : (r : List ℕ) (i m : ℕ) → settings (stored (store_marks i m) r) ≡ settings r
+unfolding settings store_marks
+settings-marked r i m = stored_there (store (36 + i) m) r 0 (λ e. omega arith)
