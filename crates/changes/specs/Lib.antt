@@ -1,0 +1,2 @@
+-- A lent record and its pen.
+pub mod Lent
