@@ -3,20 +3,20 @@ ghost use Rattle.std.specs.Prelude.{◌≡◌, not, ◌&&◌, cond, [], ◌<◌,
 ghost use Rattle.loops.specs.Below.{table};
 ghost use Rattle.group.specs.Heads.{has};
 ghost use Rattle.group.specs.Words.{rank};
-ghost use Rattle.store.specs.Desk.{desk, run};
+ghost use Rattle.store.specs.Desk.{run};
 ghost use Rattle.record.specs.Layout.{primary as primary_of};
 ghost use Rattle.recovery.specs.Changes.{adopt_change};
 ghost use Rattle.recovery.specs.Changes.{past as past_of};
 ghost use Rattle.plan.specs.Adoption.{offered};
+ghost use Rattle.changes.specs.Lent.{on, Leaves};
 
-use changes::take_over;
+use changes::Desk;
 use group::Group;
 use group::words::{number_of, rank_of};
 use members::is_other;
 use record::layout::{Record, number, own, place_at, primary};
 use state::{Held, State};
 use std::array;
-use store::Pen;
 
 // What q offers, of whom state st is held: its last formed for own head; nothing where it is no other member.
 fn offer(m: u16, own: usize, q: usize, st: &State) -> u64
@@ -55,20 +55,19 @@ fn all_past(rec: &Record, w: u64) -> [bool; Group::PLACES]
 }
 
 // Adopts session w.
-fn adopt(rec: &mut Record, pen: Pen, w: u64) -> Pen
-    ensures { desk rec.new result ≡ run (adopt_change rec.old w) (desk rec.old pen) }
+fn adopt(desk: &mut Desk, w: u64)
+    ensures { Leaves (run (adopt_change desk.old.rec.now w) (on desk.old)) desk.old desk.new }
 {
-    let rises = number(rec) < number_of(w);
-    let cleared = all_past(rec, w);
-    take_over(rec, pen, w, rises, &cleared)
+    let rises = number(desk.rec) < number_of(w);
+    let cleared = all_past(desk.rec, w);
+    desk.take_over(w, rises, &cleared);
 }
 
 // Adopts session w if it is numbered above last primary.
-pub fn adopt_above(rec: &mut Record, pen: Pen, w: u64) -> Pen
-    ensures { desk rec.new result ≡ run (cond (ltb (rank (primary_of rec.old)) (rank w)) (adopt_change rec.old w) []) (desk rec.old pen) }
+pub fn adopt_above(desk: &mut Desk, w: u64)
+    ensures { Leaves (run (cond (ltb (rank (primary_of desk.old.rec.now)) (rank w)) (adopt_change desk.old.rec.now w) []) (on desk.old)) desk.old desk.new }
 {
-    if rank_of(w) <= rank_of(primary(rec)) {
-        return pen;
+    if rank_of(primary(desk.rec)) < rank_of(w) {
+        adopt(desk, w);
     }
-    adopt(rec, pen, w)
 }

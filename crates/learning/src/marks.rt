@@ -4,17 +4,17 @@ ghost use Rattle.std.specs.List.{fold, enumerate_from};
 ghost use Rattle.loops.specs.Below.{table};
 ghost use Rattle.group.specs.Heads.{has, either, only};
 ghost use Rattle.group.specs.Words.{rank};
-ghost use Rattle.store.specs.Desk.{desk};
 ghost use Rattle.store.specs.Program.{step_by, exec, up_to};
 ghost use Rattle.state.specs.declared.Held.{Held};
 ghost use Rattle.plan.specs.Marks.{mark_step};
 ghost use Rattle.plan.specs.Adoption.{offered};
+ghost use Rattle.changes.specs.Lent.{on};
 
+use changes::Desk;
 use group::Group;
 use group::words::{has_head, rank_of};
 use members::is_other;
-use record::layout::{Field, Record, change, marks_at, own, place_at};
-use store::Pen;
+use record::layout::{Field, marks_at, own, place_at};
 
 fn mark_if(asked: bool, marks: u64, q: usize) -> u64
     requires { q < 16 }
@@ -41,25 +41,24 @@ fn marked_in(m: u16, own: usize, w: u64, offers: &[u64; Group::HEADS], marks: u6
 }
 
 // Marks place i, given what each other member offers.
-fn mark_place(rec: &mut Record, pen: Pen, m: u16, offers: &[u64; Group::HEADS], i: usize) -> Pen
+fn mark_place(desk: &mut Desk, m: u16, offers: &[u64; Group::HEADS], i: usize)
     requires { i < 16 }
-    ensures { (held : Held) → offers.now ≡ table 16 (offered m held rec.old) → desk rec.new result ≡ step_by (mark_step m held i) (desk rec.old pen) }
+    ensures lent { desk.new.rec.ghost_name ≡ desk.old.rec.ghost_name }
+    ensures stores { (held : Held) → offers.now ≡ table 16 (offered m held desk.old.rec.now) → on desk.new ≡ step_by (mark_step m held i) (on desk.old) }
 {
-    let w = place_at(rec, i);
-    if w == 0 {
-        return pen;
+    let w = place_at(desk.rec, i);
+    if w != 0 {
+        let marks = marked_in(m, own(desk.rec), w, offers, marks_at(desk.rec, i));
+        desk.change(Field::Marks(i), marks);
     }
-    let marks = marked_in(m, own(rec), w, offers, marks_at(rec, i));
-    change(rec, pen, Field::Marks(i), marks)
 }
 
 // Marks every place.
-pub fn mark_places(rec: &mut Record, pen: Pen, m: u16, offers: &[u64; Group::HEADS]) -> Pen
-    ensures { (held : Held) → offers.now ≡ table 16 (offered m held rec.old) → desk rec.new result ≡ exec (up_to 16 (mark_step m held)) (desk rec.old pen) }
+pub fn mark_places(desk: &mut Desk, m: u16, offers: &[u64; Group::HEADS])
+    ensures lent { desk.new.rec.ghost_name ≡ desk.old.rec.ghost_name }
+    ensures stores { (held : Held) → offers.now ≡ table 16 (offered m held desk.old.rec.now) → on desk.new ≡ exec (up_to 16 (mark_step m held)) (on desk.old) }
 {
-    let mut p = pen;
     for i in 0..Group::PLACES {
-        p = mark_place(rec, p, m, offers, i);
+        mark_place(desk, m, offers, i);
     }
-    p
 }

@@ -3,4 +3,4 @@ use Rattle.plan.proofs.Laws.Stores.{adopt-by}
 use Rattle.learning.proofs.adoption.adopt.Goals as goal
 
 pub returns : goal.returns
-returns c = adopt-by _ _ _ c.number.ensures c.number_of.ensures c.all_past-cleared.ensures c.take_over.ensures
+returns c = record { lent = c.take_over.ensures.lent; stores = adopt-by _ _ _ c.number.ensures c.number_of.ensures c.all_past-cleared.ensures c.take_over.ensures.stores }

@@ -20,11 +20,11 @@ adding-chain : (m own w marks : ℕ) (offers : List ℕ) → length offers ≡ 1
 unfolding adding
 adding-chain m own w marks offers h = fold-enumerate _ _ marks offers 0 16 h (λ i s k. refl)
 
-pub returns-then-w-eq0 : goal.returns-then-w-eq0
-returns-then-w-eq0 c = λ held told. mark-skip _ held _ _ _ c.place_at-w.ensures c.if-w-eq0.true
+pub returns-else-w-ne0-clause-stores : goal.returns-else-w-ne0-clause-stores
+returns-else-w-ne0-clause-stores c = λ held told. mark-skip _ held _ _ _ c.place_at-w.ensures c.if-w-ne0.false
 
-pub returns : goal.returns
-returns c = λ held told.
-    c.change.ensures
+pub returns-then-w-ne0-clause-stores : goal.returns-then-w-ne0-clause-stores
+returns-then-w-ne0-clause-stores c = λ held told.
+    c.change.ensures.stores
     ∙ mark-told _ held _ _ told _ _ _ _ _ _ c.own.ensures.0 c.place_at-w.ensures c.marks_at.ensures
     (c.marked_in-marks.ensures ∙ adding-chain _ _ _ _ _ c.told-offers)
