@@ -4,19 +4,18 @@
 ghost use Rattle.std.specs.Prelude.{◌≡◌, not, ◌&&◌, ◌<◌, eqb};
 ghost use Rattle.loops.specs.Below.{any_below};
 ghost use Rattle.group.specs.Heads.{has};
-ghost use Rattle.store.specs.Desk.{desk};
-ghost use Rattle.store.specs.Program.{step_by, exec, up_to};
+ghost use Rattle.store.specs.Program.{exec, up_to};
 ghost use Rattle.plan.specs.Clearing.{all_marked, to_clear, clear_step};
+ghost use Rattle.changes.specs.Lent.{on, Leaves};
 ghost use Rattle.plan.specs.Clearing.{lists as lists_of, behind as behind_of, denies as denies_of};
 
-use changes::clear_if;
+use changes::Desk;
 use group::Group;
 use group::heads::without_head;
 use group::words::{has_head, heads_of, lies_in, rank_of};
 use members::is_other;
 use record::layout::{Record, marks_at, own, place_at};
 use state::{Held, State};
-use store::Pen;
 
 // All heads of place i but own are marked.
 #[tactic(auto, unfolding(plan::specs::Clearing::all_marked))]
@@ -73,23 +72,12 @@ fn to_clear(rec: &Record, m: u16, held: &Held, i: usize) -> bool
     w != 0 && (all_marked(rec, i) || denied(rec, m, held, w))
 }
 
-fn clear_place(rec: &mut Record, pen: Pen, m: u16, held: &Held, i: usize) -> Pen
-    requires { i < 16 }
-    ensures { desk rec.new result ≡ step_by (clear_step m held.now i) (desk rec.old pen) }
+// Clears what c clears.
+pub fn clear_places(desk: &mut Desk, m: u16, held: &Held)
+    ensures { Leaves (exec (up_to 16 (clear_step m held.now)) (on desk.old)) desk.old desk.new }
 {
-    let asked = to_clear(rec, m, held, i);
-    clear_if(rec, pen, asked, i)
-}
-
-// Clears what c clears, passing over the free places.
-pub fn clear_places(rec: &mut Record, pen: Pen, m: u16, held: &Held) -> Pen
-    ensures { desk rec.new result ≡ exec (up_to 16 (clear_step m held.now)) (desk rec.old pen) }
-{
-    let mut p = pen;
     for i in 0..Group::PLACES {
-        if place_at(rec, i) != 0 {
-            p = clear_place(rec, p, m, held, i);
-        }
+        let asked = to_clear(desk.rec, m, held, i);
+        desk.clear_if(asked, i);
     }
-    p
 }
