@@ -5,20 +5,19 @@ ghost use Rattle.std.specs.Prelude.{◌≡◌, ◌<◌, not, ◌||◌, cond, eqb
 ghost use Rattle.loops.specs.Below.{all_below};
 ghost use Rattle.group.specs.Answers.{said};
 ghost use Rattle.group.specs.Heads.{has};
-ghost use Rattle.store.specs.Desk.{desk};
 ghost use Rattle.store.specs.Program.{step_by};
+ghost use Rattle.changes.specs.Lent.{on, Leaves};
 ghost use Rattle.record.specs.Layout.{own as own_of};
 ghost use Rattle.plan.specs.Attempt.{highest_number, highest_primary, passes_for, own_weighed, state_weighed, listed_weighed, lowest_free, decision, attempt_step};
 ghost use Rattle.plan.specs.Attempt.{weighed as weighed_by, quorate as is_quorate};
 
-use changes::attempt;
+use changes::Desk;
 use group::quorum::sub_quorum;
 use group::words::{has_head, heads_of, rank_of, session_of};
 use group::{Answer, Group};
 use members::{higher, members_end, of_member};
 use record::layout::{Record, core, least, number, own, places, primary};
 use state::{Held, State};
-use store::Pen;
 
 // The highest session number among the members, and the highest-numbered of their last primaries.
 #[derive(Clone, Copy)]
@@ -118,40 +117,22 @@ fn lowest_free(rec: &Record) -> Option<usize>
     places(rec).iter().position(|w| *w == 0)
 }
 
-// The pen after decide's stores, and the answer; it says nothing where the pen is cut.
-#[derive(Clone, Copy)]
-pub struct Decided {
-    pub pen: Pen,
-    pub answer: Answer,
-}
-
 // Attempts, or answers why not, in document 01's order.
-pub fn conclude(rec: &mut Record, pen: Pen, m: u16, held: &Held) -> Decided
-    ensures { (desk rec.new result.pen ≡ step_by (attempt_step m held.now) (desk rec.old pen)) × (said (Ok result.answer) ≡ decision m held.now rec.old) }
+pub fn conclude(desk: &mut Desk, m: u16, held: &Held) -> Answer
+    ensures stored { Leaves (step_by (attempt_step m held.now) (on desk.old)) desk.old desk.new }
+    ensures answered { said (Ok result) ≡ decision m held.now desk.old.rec.now }
 {
-    let among = highest_among(rec, m, held);
-    if !quorate(rec, m, held, among.primary) {
-        return Decided {
-            pen,
-            answer: Answer::NoQuorum,
-        };
+    let among = highest_among(desk.rec, m, held);
+    if !quorate(desk.rec, m, held, among.primary) {
+        return Answer::NoQuorum;
     }
     let highest = among.number;
     if Group::TOP <= highest {
-        return Decided {
-            pen,
-            answer: Answer::NumbersRunOut,
-        };
+        return Answer::NumbersRunOut;
     }
-    let Some(free) = lowest_free(rec) else {
-        return Decided {
-            pen,
-            answer: Answer::NoPlace,
-        };
+    let Some(free) = lowest_free(desk.rec) else {
+        return Answer::NoPlace;
     };
-    let p = attempt(rec, pen, free, session_of(highest + 1, m));
-    Decided {
-        pen: p,
-        answer: Answer::Attempted,
-    }
+    desk.attempt(free, session_of(highest + 1, m));
+    Answer::Attempted
 }
