@@ -6,7 +6,7 @@ use Rattle.store.specs.Desk.{desk, is_cut}
 use Rattle.store.specs.Program.{exec}
 use Rattle.state.specs.declared.Held.{Held}
 use Rattle.plan.specs.Decide.{decide_program, decide_answer}
-use Rattle.attempting.specs.declared.Decided.{Decided}
+use Rattle.deciding.specs.declared.decide.Decided.{Decided}
 
 -- what `decide_stores` makes of record r under a pen: the stores of the program, and the answer unless the pen is cut
 pub record Decides (m : ℕ) (held : Held) (r : List ℕ) (pen : Pen) (left : List ℕ) (d : Decided) : Type 0 where

@@ -7,7 +7,7 @@ ghost use Rattle.record.specs.Layout.{place_at};
 ghost use Rattle.record.specs.Layout.{number as number_of};
 ghost use Rattle.plan.specs.Form.{form_step};
 
-use changes::take_over;
+use changes::Desk;
 use group::Group;
 use group::words::session_of;
 use record::layout::{Record, number, place_at};
@@ -28,5 +28,7 @@ pub fn form_stores(rec: &mut Record, pen: Pen, m: u16) -> Pen
 {
     let w = session_of(number(rec), m);
     let cleared = all_used(rec);
-    take_over(rec, pen, w, false, &cleared)
+    let mut desk = Desk { rec, pen };
+    desk.take_over(w, false, &cleared);
+    desk.pen
 }

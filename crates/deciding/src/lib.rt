@@ -4,5 +4,5 @@
 mod decide;
 mod form;
 
-pub use decide::decide_stores;
+pub use decide::{Decided, decide_stores};
 pub use form::form_stores;

@@ -26,7 +26,7 @@ use Rattle.plan.specs.Clearing.{clear_step}
 use Rattle.plan.specs.Attempt.{decision, attempt_step}
 use Rattle.plan.specs.Decide.{learning, after_c, decide_program, decide_answer}
 use Rattle.deciding.specs.Decides.{Decides}
-use Rattle.attempting.specs.declared.Decided.{Decided}
+use Rattle.deciding.specs.declared.decide.Decided.{Decided}
 use Rattle.plan.proofs.Laws.Marks.{marks-keep, offered-same}
 use Rattle.plan.proofs.Laws.Branches.{highest-table}
 
@@ -37,7 +37,7 @@ unfolding step_by adopt_step adopts
 adopt-by-offers m held r₁ p₁ w e f = f ∙ rw e
 
 module _ (m : ℕ) (held : Held) (r : List ℕ) (pen : Pen) where
-  pub learn-chain : length r ≡ 52 → {offers : List ℕ} {w : ℕ} {r₁ : List ℕ} {p₁ : Pen} {d₂ d₃ : Desk}
+  pub learn-chain : {offers : List ℕ} {w : ℕ} {r₁ : List ℕ} {p₁ : Pen} {d₂ d₃ : Desk}
       → offers ≡ table 16 (offered m held r)
       → desk r₁ p₁ ≡ exec (up_to 16 (mark_step m held)) (desk r pen)
       → w ≡ highest_of 16 (λ i. get_or offers i 0)
@@ -45,8 +45,8 @@ module _ (m : ℕ) (held : Held) (r : List ℕ) (pen : Pen) where
       → d₃ ≡ exec (up_to 16 (clear_step m held)) d₂
       → d₃ ≡ exec (learning m held) (desk r pen)
   unfolding learning exec best_offer
-  learn-chain long {w = w} {r₁ = r₁} {p₁ = p₁} told a e b c =
-      let same : settings r₁ ≡ settings r = ap (λ (d : Desk). settings d.rec) a ∙ marks-keep m held 16 (desk r pen) (le_refl 16) long in
+  learn-chain {w = w} {r₁ = r₁} {p₁ = p₁} told a e b c =
+      let same : settings r₁ ≡ settings r = ap (λ (d : Desk). settings d.rec) a ∙ marks-keep m held 16 (desk r pen) in
       let best = e ∙ highest-table (offered m held r₁) (told ∙ offered-same m held r r₁ (sym same)) in
       c ∙ ap (exec (up_to 16 (clear_step m held))) (adopt-by-offers m held r₁ p₁ w best b ∙ ap (step_by (adopt_step m held)) a)
       ∙ sym (exec-append (up_to 16 (mark_step m held)) (adopt_step m held ∷ up_to 16 (clear_step m held)) (desk r pen))
