@@ -2,7 +2,6 @@
 use mathlib.Core.Path.{◌≡◌, sym, ◌∙◌}
 use mathlib.Core.Bool.{true}
 use native.Mathlib.Omega.{arith}
-use Rattle.loops.proofs.Laws.Truth.{failed, passed}
 use Rattle.record.specs.Whole.{place_whole, marks_whole}
 use Rattle.record.proofs.Laws.Fewer.{free-tests, used-place, used-number, used-tests, unused-tests}
 use Rattle.whole.proofs.place_whole.Goals.{Else-not-used_ok}
@@ -12,10 +11,10 @@ pub returns-then-w-eq0 : goal.returns-then-w-eq0
 returns-then-w-eq0 c = free-tests _ _ (sym c.place_at-w.ensures ∙ c.if-w-eq0.true) c.marks_at.ensures
 
 pub returns-then-not-used_ok : goal.returns-then-not-used_ok
-returns-then-not-used_ok c = sym (unused-tests _ _ (failed _ _ (used-place _ _ c.place_at-w.ensures c.if-w-eq0.false c.used_ok.ensures) c.if-not-used_ok.true-raw))
+returns-then-not-used_ok c = sym (unused-tests _ _ (sym (used-place _ _ c.place_at-w.ensures c.if-w-eq0.false c.used_ok.ensures) ∙ c.if-not-used_ok.true))
 
 used-here : (c : Else-not-used_ok) → place_whole c.args.rec.now c.args.i ≡ true
-used-here c = passed _ _ (used-place _ _ c.place_at-w.ensures c.if-w-eq0.false c.used_ok.ensures) c.if-not-used_ok.false-raw
+used-here c = sym (used-place _ _ c.place_at-w.ensures c.if-w-eq0.false c.used_ok.ensures) ∙ c.if-not-used_ok.false
 
 pub apart_whole-requires : goal.apart_whole-requires
 apart_whole-requires c = (omega arith, used-number _ _ c.place_at-w.ensures c.if-w-eq0.false (used-here c))
