@@ -1,12 +1,9 @@
--- Before each turn there is no newline among the first i characters, and a block with none is passed whole.
-use lib.ListN.{length, drop}
+-- Before each turn there is no newline in the blocks before it.
 use mathlib.Core.Path.{◌≡◌}
-use Prim.Native.Nat.{◌≤◌, ◌-◌, ◌+◌}
+use Prim.Native.Nat.{◌+◌, ◌*◌}
+use lib.ListN.{drop}
 use Rattle.lines.specs.Hex.{line_end}
 use Rattle.hexadecimal.proofs.blocks_end.Given as goal
 
 abbrev pub invariant-loop-i : goal.invariant-loop-i
-invariant-loop-i l = (l.i ≤ length l.s) × (line_end l.s ≡ l.i + line_end (drop l.i l.s))
-
-abbrev pub decreases-loop-i : goal.decreases-loop-i
-decreases-loop-i l = length l.s - l.i
+invariant-loop-i l = line_end l.s ≡ l.i * 32 + line_end (drop (l.i * 32) l.s)

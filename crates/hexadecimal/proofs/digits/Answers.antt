@@ -4,17 +4,15 @@ use lib.Seq.{take_all}
 use Rattle.loops.specs.Below.{every}
 use Rattle.lines.specs.Hex.{is_digit}
 use Rattle.lines.proofs.Laws.Hex.{every_take}
-use borrow.Author.Rules.{rules}
 use native.Mathlib.Omega.{arith}
 use Rattle.hexadecimal.proofs.digits.Goals as goal
 
-pub loop-i-init : goal.loop-i-init
+pub loop-c-init : goal.loop-c-init
 unfolding every
-loop-i-init c = (search rules, refl)
+loop-c-init c = refl
 
-pub loop-i-preserved : goal.loop-i-preserved
-loop-i-preserved c =
-    (search rules, cc (c.is_digit-ok.ensures, c.loop-i.invariant.1, every_take is_digit c.args.s.now c.loop-i.i (omega arith)))
+pub loop-c-preserved : goal.loop-c-preserved
+loop-c-preserved c = cc (c.is_digit-ok.ensures, c.loop-c.invariant, every_take is_digit c.args.s.now c.loop-c.c-index (omega arith))
 
 pub returns : goal.returns
-returns c = c.loop-i.invariant.1 ∙ ap (every is_digit) (take_all c.loop-i.i c.args.s.now (omega arith))
+returns c = c.loop-c.invariant ∙ ap (every is_digit) (take_all c.loop-c.c-index c.args.s.now (omega arith))

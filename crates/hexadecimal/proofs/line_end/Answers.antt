@@ -1,23 +1,16 @@
--- Before each turn there is no newline among the first i characters.
-use Rattle.lines.proofs.Laws.Hex.{line-end-none, line-end-step}
-use borrow.Author.Tests.{eq-eqb, ne_eqb}
-use native.Mathlib.Omega.{arith}
+-- The place among what is left, after the blocks that have no newline.
+use Rattle.std.proofs.Common.{arith, ◌≡◌, ◌∙◌, ap, ℕ, length, drop, take, ◌-◌, Option}
+use Rattle.std.specs.Option.{unwrap_or}
+use Rattle.lines.specs.Hex.{line_end}
+use Rattle.lines.proofs.Laws.Hex.{part-drop}
+use Rattle.hexadecimal.proofs.Laws.{newline, position-or-end, first-newline}
 use Rattle.hexadecimal.proofs.line_end.Goals as goal
 
-pub loop-i-init : goal.loop-i-init
-loop-i-init c = c.blocks_end-i.ensures
-
-pub returns-then-s-i-eq10 : goal.returns-then-s-i-eq10
-returns-then-s-i-eq10 c =
-    let e = line-end-step c.args.s.now c.loop-i.i (omega arith) in
-    let q = simp (eq-eqb _ _ c.if-s-i-eq10.true) at e in
-    omega arith
-
-pub loop-i-preserved : goal.loop-i-preserved
-loop-i-preserved c =
-    let e = line-end-step c.args.s.now c.loop-i.i (omega arith) in
-    let q = simp (ne_eqb _ _ c.if-s-i-eq10.false) at e in
-    omega arith
-
 pub returns : goal.returns
-returns c = omega (arith, line-end-none c.args.s.now c.loop-i.i (omega arith))
+returns c =
+    let s = c.args.s.now in
+    let from = c.blocks_end-from.result in
+    let rest = take (length s - from) (drop from s) in
+    let found : c.unwrap_or.result ≡ line_end (drop from s) =
+    c.unwrap_or.ensures ∙ ap (λ (o : Option ℕ). unwrap_or o (length rest)) c.newline_at.ensures ∙ position-or-end newline rest ∙ first-newline rest ∙ ap line_end (part-drop s from) in
+    omega (arith, found, c.blocks_end-from.ensures)

@@ -14,7 +14,7 @@ loop-i-init c = (omega arith, refl, λ k h. absurd (not-suc-le-zero h))
 pub loop-i-preserved : goal.loop-i-preserved
 loop-i-preserved c =
     let a = c.args in
-    (omega arith, simp length-set c.loop-i.invariant.1, filled_more (λ (k : ℕ). nib (get_or a.s.now (a.at + k) 0)) c.loop-i.n c.loop-i.i _ (omega arith) c.nibble.ensures c.loop-i.invariant.2)
+    (omega arith, simp length-set c.loop-i.invariant.1, filled_more (λ (k : ℕ). nib (get_or a.s.now (a.at + k) 0)) c.loop-i.n c.loop-i.i _ (omega arith) c.nibble.ensures.value c.loop-i.invariant.2)
 
 pub returns : goal.returns
 returns c k h = c.loop-i.invariant.2 k (omega arith)
