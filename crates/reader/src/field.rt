@@ -6,6 +6,7 @@ ghost use Rattle.lines.specs.Frame.{four, six, words};
 use group::Group;
 use std::array;
 
+#[tactic(auto, using(lines::proofs::Laws::Frame::four_bytes))]
 pub fn four_at(f: &[u8], at: usize) -> u32
     requires { at + 4 ≤ length f.now }
     ensures { result ≡ four (drop at f.now) }
@@ -13,6 +14,7 @@ pub fn four_at(f: &[u8], at: usize) -> u32
     u32::from_be_bytes([f[at], f[at + 1], f[at + 2], f[at + 3]])
 }
 
+#[tactic(auto, using(lines::proofs::Laws::Frame::six_bytes))]
 pub fn six_at(f: &[u8], at: usize) -> u64
     requires { at + 6 ≤ length f.now }
     ensures { result ≡ six (drop at f.now) }

@@ -15,6 +15,7 @@ use lines::Frame;
 use state::{Rule, State, broken};
 
 // Rule 3, and the view and the sender that it judges.
+#[tactic(auto, unfolding(lines::specs::Reading::rule3, lines::specs::Reading::view_of, lines::specs::Reading::sender_of))]
 fn head_of(f: &[u8]) -> Result<(u32, u8), Rule>
     requires { 6 ≤ length f.now }
     ensures { MatchResult result (λ head. (rule3 f.now ≡ true) × (head.0 ≡ view_of f.now) × (head.1 ≡ sender_of f.now)) (λ rule. (rule3 f.now ≡ false) × (rule ≡ Head)) }
@@ -28,6 +29,7 @@ fn head_of(f: &[u8]) -> Result<(u32, u8), Rule>
 }
 
 // The state in a frame of the right length.
+#[tactic(auto, unfolding(lines::specs::Reading::state_of, lines::specs::Reading::count_of))]
 fn state_of(f: &[u8]) -> State
     requires { (count_of f.now ≤ 16) × (length f.now ≡ 113 + 6 * count_of f.now) }
     ensures { result ≡ state_of f.now }

@@ -4,7 +4,7 @@ use mathlib.Core.Bool.{Bool, cond, ◌&&◌, true, false, not}
 use mathlib.Core.Logic.{◌⊎◌, inl, inr, ⊎_elim}
 use Rattle.lines.specs.Read.{Read, StateLine, AttemptLine}
 use Rattle.loops.proofs.Laws.Truth.{or_cases, clash, fails-if, cond-elim, and_left, and_right}
-use mathlib.Core.List.{List, [], ◌∷◌}
+use mathlib.Core.List.{List}
 use Prim.Native.Nat.{ℕ, ◌+◌, ◌*◌, ◌≤◌, ◌<◌}
 use native.Mathlib.Omega.{arith}
 use borrow.Author.Tests.{leb-true, le-leb, lt-leb, lt-ltb, le-ltb, eqb-true, eqb-false, eq-eqb, ne_eqb, not-true}
@@ -108,12 +108,6 @@ module _ (l : List ℕ) (d : rule1 l ≡ true) where
       → judged l ≡ record { line = StateLine (view_of (unhex l)) (sender_of (unhex l)); state = state_of (unhex l) }
   unfolding judged first_broken answer rule2 later_broken carried
   state-kept k a b e = rw (d, k, a, b, e)
-
-pub short-kind : (l : List ℕ) → length l < 2 → kind_of (unhex l) ≡ 0
-unfolding kind_of unhex
-short-kind [] h = refl
-short-kind (a ∷ []) h = refl
-short-kind (a ∷ b ∷ l) h = absurd (omega arith)
 
 -- ---- a line that was read
 

@@ -1,13 +1,13 @@
 -- The characters that a writer stores: pieces spelled one after the other are spelled together, and a frame from the start with its newline is the line.
 -- By induction on the list, and the laws of `sets`.
 use mathlib.Core.Path.{◌≡◌, refl, sym, ap, ◌∙◌}
-use mathlib.Core.List.{List, [], ◌∷◌, ◌++◌, map, append_assoc, append-nil}
+use mathlib.Core.List.{List, [], ◌∷◌, ◌++◌, append_assoc, append-nil}
 use Prim.Native.Nat.{ℕ, suc, ◌+◌, ◌*◌, ◌/◌, ◌%◌, ◌≤◌, ◌<◌}
 use native.Mathlib.Nat.{add-zero, add-suc, suc-add}
 use native.Mathlib.Numerals.{add-one}
 use native.Mathlib.Omega.{arith}
 use borrow.Author.Tests.{le-leb, lt-leb}
-use lib.ListN.{length, get_or, take, drop, set, length-append, length-map}
+use lib.ListN.{length, get_or, take, drop, set, length-append}
 use lib.Seq.{sets, sets-eq, take-suc, take-add, drop-length, length-take-le}
 use Rattle.state.specs.declared.State.{State}
 use Rattle.lines.specs.Hex.{digit, hex_of}
@@ -200,10 +200,6 @@ length-attempt-line v s = omega (arith, length-line (head_bytes 2 v s), length-h
 pub length-state-line : (v s : ℕ) (st : State) → length st.formed ≡ 16 → st.count ≤ length st.places → length (state_line v s st) ≡ 227 + 12 * st.count
 unfolding state_line
 length-state-line v s st h k = omega (arith, length-line (state_frame v s st), length-state v s st h k)
-
--- what a struct's field that is an array gives of its length: `good` says it of the words as the memory has them
-pub length-as-held : {A B : Type 0} (f : A → B) (l : List A) → length (map f l) ≡ 16 → length l ≡ 16
-length-as-held f l h = sym (length-map l f) ∙ h
 
 -- ---- the calls, by what they test
 

@@ -49,12 +49,6 @@ room-le l =
     (λ b. omega (arith, ap (λ (r : Read). room r.line) b.3 ∙ broken-room b.0))
     (judged-cases l)
 
--- no answer takes more
-pub room_most : (l : Line) → room l ≤ 112
-room_most (StateLine v p) = omega arith
-room_most (AttemptLine v p) = omega arith
-room_most (Broken k) = omega arith
-
 -- ---- a long line
 
 pub broken-shown : (k : ℕ) → shown (breaks k) ≡ refused_text

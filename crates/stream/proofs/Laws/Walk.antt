@@ -22,11 +22,6 @@ pub record Walked (s out rest : List ℕ) (put : ℕ) : Type 0 where
   pub prints : printed (whole_lines [] s) ≡ take put out ++ printed (whole_lines [] rest)
   pub begins : begun [] s ≡ begun [] rest
 
-pub walked_none : (s out : List ℕ) → Walked s out s 0
-walked_none s out =
-    let z : length s - length s ≡ 0 = omega arith in
-    record { fits = omega arith; within = omega arith; same = rw z; prints = refl; begins = refl }
-
 -- the rest's rest is a rest of the whole
 same-again : (s rest : List ℕ) (a : ℕ) → length rest ≤ length s → a ≤ length rest → drop (length s - length rest) s ≡ rest
     → drop (length s - (length rest - a)) s ≡ drop a rest

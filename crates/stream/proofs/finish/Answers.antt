@@ -17,6 +17,6 @@ returns-clause-out_after c =
     let z = eqb-false _ 0 (sym c.if-is_empty.ensures) in
     let d : written c.match-split_line.printer ≡ printed (last_line s) =
     elim c.match-split_line.branch [
-      in-Some w ↦ let e = w.in-Some.ensures in rw w.printer-is (w.print_line.ensures.then ∙ last-first s _ z e.0 e.1)
+      | in-Some w ↦ let e = w.in-Some.ensures in rw w.printer-is (w.print_line.ensures.then ∙ last-first s _ z e.0 e.1)
       | in-None w ↦ rw w.printer-is (w.print_refused.ensures.then ∙ last-refused s z w.in-None.ensures)
     ] in search (rules, d)
