@@ -227,7 +227,11 @@ pub fn played(h: Seat, g: Seat, what: What) -> Next
     match what {
         What::Refuse { number } => does_nothing(h, Reply::Refused(number), 0),
         What::Announce { .. } => does_nothing(h, Reply::Announced, 0),
-        What::Open { core, .. } => does_nothing(h, Reply::Head(Ok(Answer::Started)), u64::from(core)),
+        What::Open { core, .. } => does_nothing(
+            h,
+            Reply::Head(Ok(Answer::Started)),
+            u64::from(core),
+        ),
         What::Enter { view, heads } => enters(h, view, heads),
         What::HearState { which } => hears(Line::State, h, g, which),
         What::HearAttempt { which } => hears(Line::Attempt, h, g, which),
