@@ -3,12 +3,12 @@
 use mathlib.Core.Path.{◌≡◌, refl, sym, ap, ◌∙◌}
 use mathlib.Core.Bool.{Bool, true, false, not, cond, ◌&&◌}
 use mathlib.Core.List.{List, [], ◌∷◌}
-use Prim.Native.Nat.{ℕ, zero, suc, ◌+◌, ◌*◌, ◌%◌, ◌^◌, ◌≤◌, ◌<◌}
+use Prim.Native.Nat.{ℕ, zero, suc, ◌+◌, ◌*◌, ◌%◌, ◌^◌, ◌<◌}
 use native.Mathlib.Nat.{one-mul, mod-eq_of_lt}
 use native.Mathlib.Omega.{arith}
 use lib.Dec.{eqb, ltb}
 use lib.Pow.{pow-lt}
-use lib.ListN.{get_or, length}
+use lib.ListN.{get_or}
 use Rattle.loops.specs.Below.{table}
 use Rattle.loops.proofs.Laws.Fold.{fold-cong, fold-keeps}
 use Rattle.loops.proofs.Laws.Lists.{get_d-table}
@@ -18,9 +18,8 @@ use Rattle.group.proofs.Laws.Heads.{has-none}
 use Rattle.store.specs.declared.Pen.{Pen}
 use Rattle.store.specs.declared.Pen.TheVariants.{Left, Cut}
 use Rattle.store.specs.Desk.{Store, Desk, desk, put_at, put_to, run, stored, differs, where_changed, diff_if}
-use Rattle.store.specs.Program.{Step, step_by, exec, script, up_to}
-use Rattle.store.proofs.Laws.Script.{run_length}
-use Rattle.store.proofs.Laws.Program.{exec-run, exec-append, exec-one, up_to-next, steps-start, steps-again}
+use Rattle.store.specs.Program.{Step, step_by, exec, up_to}
+use Rattle.store.proofs.Laws.Program.{exec-append, exec-one, up_to-next, steps-start, steps-again}
 use Rattle.record.specs.Layout.{settings, own, place_at, marks_at, store_marks}
 use Rattle.record.proofs.Laws.Layout.{same-own, not-stored, marks-puts, settings-marked}
 use Rattle.state.specs.declared.Held.{Held}
