@@ -23,7 +23,7 @@ fn turn<R: Read, W: Write>(
     if n == 0 {
         return ControlFlow::Break(held);
     }
-    let fed = feed(buf, held + n, out);
+    let fed = feed(&mut buf[..held + n], out);
     match writer.write_all(&out[..fed.put]) {
         Ok(()) => ControlFlow::Continue(fed.held),
         Err(_) => ControlFlow::Break(fed.held),

@@ -54,17 +54,17 @@ pub fn keep(buf: &mut [u8], from: usize, n: usize)
     buf.copy_within(from..from + n, 0);
 }
 
-// One part of the input: the first n bytes of buf are what was held and what was read. Prints its whole lines, and holds at the start of buf the bytes of the
-// line that it begins, at most 420 of them: a line that long is refused whatever follows.
-pub fn feed(buf: &mut [u8], n: usize, out: &mut [u8]) -> Fed
-    requires { (n ≤ length buf.old) × (4 * n ≤ length out.old) }
-    ensures put_bound { (result.put ≤ 4 * n) × (result.held ≤ 420) × Counts result.put out.new }
-    ensures out_after { take result.put out.new ≡ printed (whole_lines [] (take n buf.old)) }
-    ensures buf_after { take result.held buf.new ≡ take 420 (begun [] (take n buf.old)) }
+// One part of the input: what was held and what was read. Prints its whole lines, and holds at the start of buf the bytes of the line that it begins, at most 420
+// of them: a line that long is refused whatever follows.
+pub fn feed(buf: &mut [u8], out: &mut [u8]) -> Fed
+    requires { 4 * length buf.old ≤ length out.old }
+    ensures put_bound { (result.put ≤ 4 * length buf.old) × (result.held ≤ 420) × Counts result.put out.new }
+    ensures out_after { take result.put out.new ≡ printed (whole_lines [] buf.old) }
+    ensures buf_after { take result.held buf.new ≡ take 420 (begun [] buf.old) }
 {
-    let fed = print_lines(&buf[..n], out);
+    let fed = print_lines(buf, out);
     let held = fed.held.min(420);
-    keep(buf, n - fed.held, held);
+    keep(buf, buf.len() - fed.held, held);
     Fed { put: fed.put, held }
 }
 

@@ -4,7 +4,7 @@ use mathlib.Core.List.{List, [], ◌∷◌, ◌++◌, append_assoc, append-nil}
 use Prim.Native.Nat.{ℕ, suc, ◌+◌, ◌-◌, ◌*◌, ◌≤◌, ◌<◌, min}
 use native.Mathlib.Omega.{arith}
 use lib.ListN.{length, take, drop, length-drop}
-use lib.Seq.{take_all, drop-drop, take-add, take-take, drop_at, length-take-le}
+use lib.Seq.{take_all, drop-drop, length-take-le}
 use mathlib.Core.Logic.{⊎_elim}
 use Rattle.loops.proofs.Laws.Order.{lt-or-ge}
 use Rattle.lines.specs.Hex.{line_end, line_of, rest_of}
@@ -82,24 +82,15 @@ walked_all {s} {out} {rest} {put} w none =
 
 -- ---- what is held of a slice's last line, as it stands in the buffer
 
-part_left : (s : List ℕ) (n left : ℕ) → n ≤ length s → left ≤ n → drop (n - left) (take n s) ≡ take left (drop (n - left) s)
-part_left s n left h k =
-    let z : n ≡ (n - left) + left = omega arith in
-    ap (λ (m : ℕ). drop (n - left) (take m s)) z
-    ∙ rw (take-add (n - left) left s) (drop_at (take (n - left) s) (take left (drop (n - left) s)) (n - left) (length-take-le (n - left) s (omega arith)))
-
-module _ (s : List ℕ) (n left : ℕ) (h : n ≤ length s) (k : left ≤ n) (e : drop (n - left) (take n s) ≡ begun [] (take n s)) where
-  length-left : length (take left (drop (n - left) s)) ≡ left
-  length-left = length-take-le left (drop (n - left) s) (rw length-drop (omega arith))
-
-  pub held-front : take (min left 420) (drop (n - left) s) ≡ take 420 (begun [] (take n s))
-  held-front =
-      let l = length-left in
-      rw (sym e, part_left s n left h k)
-      (⊎_elim
-      (λ few. let z : min left 420 ≡ left = omega arith in rw z (sym (take_all 420 (take left (drop (n - left) s)) (omega arith))))
-      (λ many. let z : min left 420 ≡ 420 = omega arith in rw z (sym (take-take 420 left (drop (n - left) s) many)))
-      (lt-or-ge left 420))
+pub held-front : (s : List ℕ) (left : ℕ) → left ≤ length s → drop (length s - left) s ≡ begun [] s
+    → take (min left 420) (drop (length s - left) s) ≡ take 420 (begun [] s)
+held-front s left k e =
+    let l : length (drop (length s - left) s) ≡ left = omega (arith, length-drop (length s - left) s) in
+    rw (← e)
+    (⊎_elim
+    (λ few. let z : min left 420 ≡ left = omega arith in rw z (take_all left (drop (length s - left) s) (omega arith) ∙ sym (take_all 420 (drop (length s - left) s) (omega arith))))
+    (λ many. let z : min left 420 ≡ 420 = omega arith in rw z)
+    (lt-or-ge left 420))
 
 -- ---- the last line
 
