@@ -4,9 +4,8 @@ use mathlib.Core.Bool.{false, cond}
 use mathlib.Core.Logic.{⊎_elim}
 use mathlib.Core.List.{List, [], ◌∷◌}
 use Prim.Native.Nat.{ℕ}
-use native.Mathlib.Nat.{le_refl}
 use lib.Dec.{ltb}
-use lib.ListN.{get_or, length}
+use lib.ListN.{get_or}
 use Rattle.loops.specs.Below.{table}
 use Rattle.loops.proofs.Laws.Truth.{passes-or-fails, not-both}
 use Rattle.std.specs.Prelude.{Ok}

@@ -1,5 +1,5 @@
 -- a to c, then d: where the pen is not cut, d reads the record as after c.
-use Rattle.std.proofs.Common.{rules, arith}
+use Rattle.std.proofs.Common.{arith}
 use Rattle.deciding.proofs.Laws.Call.{decide-chain}
 use Rattle.deciding.proofs.decide.decide_stores.Goals as goal
 
