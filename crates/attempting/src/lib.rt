@@ -29,20 +29,21 @@ struct Highest {
 fn highest_among(rec: &Record, m: u16, held: &Held) -> Highest
     ensures { (result.number ≡ highest_number m held.now rec.now) × (result.primary ≡ highest_primary m held.now rec.now) }
 {
-    let p = own(rec);
+    let me = own(rec);
     let mine = number(rec);
     let last = primary(rec);
-    let mut n: u64 = 0;
-    let mut w: u64 = 0;
+    let mut top = Highest {
+        number: 0,
+        primary: 0,
+    };
     let (states, _) = held.of.split_at(members_end(m));
     for (q, st) in states.iter().enumerate() {
-        n = n.max(of_member(m, p, q, mine, u64::from(st.number)));
-        w = higher(w, of_member(m, p, q, last, st.primary));
+        top.number = top
+            .number
+            .max(of_member(m, me, q, mine, u64::from(st.number)));
+        top.primary = higher(top.primary, of_member(m, me, q, last, st.primary));
     }
-    Highest {
-        number: n,
-        primary: w,
-    }
+    top
 }
 
 // M passes the quorum test for session w.

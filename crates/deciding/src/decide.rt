@@ -16,7 +16,7 @@ use resolving::clear_places;
 use state::Held;
 use store::Pen;
 
-// The pen after decide's stores, and the answer; it says nothing where the pen is cut.
+// The pen after decide's stores, of which `decide_stores` promises what is left, and the answer; it says nothing where the pen is cut.
 #[derive(Clone, Copy)]
 pub struct Decided {
     pub pen: Pen,

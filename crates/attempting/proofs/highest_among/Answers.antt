@@ -27,9 +27,9 @@ loop-q-preserved c =
     let below : q < c.members_end.result = omega arith in
     let here : get_or c.split_at.result.0.now q absent ≡ held_of held q = rw c.split_at.ensures.front (get_or-take c.members_end.result held.of q absent below) in (
       fold-again _ _ q c.loop-q.invariant.0
-          (c.max-n.ensures ∙ ap (max _) (c.of_member.ensures ∙ number_by m held r q c.own-p.ensures.0 c.number-mine.ensures (c.from.ensures ∙ ap (λ (st : State). st.number) here))),
+          (c.max.ensures ∙ ap (max _) (c.of_member.ensures ∙ number_by m held r q c.own-me.ensures.0 c.number-mine.ensures (c.from.ensures ∙ ap (λ (st : State). st.number) here))),
       fold-again (λ k v. cond (ltb (rank v) (rank (primary_of m held r k))) (primary_of m held r k) v) _ q c.loop-q.invariant.1
-          (c.higher-w.ensures ∙ ap (λ (v : ℕ). cond (ltb (rank c.loop-q.w) (rank v)) v c.loop-q.w) (c.of_member-in-loop-q.ensures ∙ rw here (primary-by m held r q c.own-p.ensures.0 c.primary-last.ensures))),
+          (c.higher.ensures ∙ ap (λ (v : ℕ). cond (ltb (rank c.loop-q.top.primary) (rank v)) v c.loop-q.top.primary) (c.of_member-in-loop-q.ensures ∙ rw here (primary-by m held r q c.own-me.ensures.0 c.primary-last.ensures))),
     )
 
 pub returns : goal.returns

@@ -9,4 +9,4 @@ use Rattle.plan.specs.Attempt.{number_of, primary_of}
 use Rattle.attempting.proofs.highest_among.Given as goal
 
 abbrev pub invariant-loop-q : goal.invariant-loop-q
-invariant-loop-q l = (l.n ≡ fold_below l.q (λ k x. max x (number_of l.m l.held l.rec k)) 0) × (l.w ≡ fold_below l.q (λ k v. cond (ltb (rank v) (rank (primary_of l.m l.held l.rec k))) (primary_of l.m l.held l.rec k) v) 0)
+invariant-loop-q l = (l.top.number ≡ fold_below l.q (λ k x. max x (number_of l.m l.held l.rec k)) 0) × (l.top.primary ≡ fold_below l.q (λ k v. cond (ltb (rank v) (rank (primary_of l.m l.held l.rec k))) (primary_of l.m l.held l.rec k) v) 0)
