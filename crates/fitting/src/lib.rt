@@ -18,7 +18,7 @@ use state::{Held, State, keeps_rules};
 pub fn view_fits(view: u32, members: u16, rec: &Record) -> bool
     ensures { result ≡ view_fits view members rec.now }
 {
-    (u64::from(view) == entered(rec)) & (view != 0) & has_head(u64::from(members), own(rec))
+    u64::from(view) == entered(rec) && view != 0 && has_head(u64::from(members), own(rec))
 }
 
 #[tactic(auto, unfolding(crate::specs::Fits::heard_fits))]
@@ -28,9 +28,9 @@ pub fn heard_fits(members: u16, states: u16, attempts: u16, rec: &Record) -> boo
     let me = own(rec);
     let all = u64::from(members);
     lies_in(u64::from(states), all)
-        & lies_in(u64::from(attempts), all)
-        & has_head(u64::from(states), me)
-        & has_head(u64::from(attempts), me)
+        && lies_in(u64::from(attempts), all)
+        && has_head(u64::from(states), me)
+        && has_head(u64::from(attempts), me)
 }
 
 // The state held of head q, where q is another head that was heard.
@@ -64,8 +64,8 @@ pub fn stage_fits(stage: u8, members: u16, states: u16, attempts: u16, rec: &Rec
     ensures { result ≡ stage_fits stage members states attempts rec.now }
 {
     let ours = session_of(number(rec), members);
-    (stage <= FORMED)
-        & ((stage <= UNDECIDED) | (states == members))
-        & ((stage != ATTEMPTED) | is_placed(ours, rec))
-        & ((stage != FORMED) | ((primary(rec) == ours) & (attempts == members)))
+    stage <= FORMED
+        && (stage <= UNDECIDED || states == members)
+        && (stage != ATTEMPTED || is_placed(ours, rec))
+        && (stage != FORMED || primary(rec) == ours && attempts == members)
 }

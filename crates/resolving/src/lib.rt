@@ -41,7 +41,7 @@ fn behind(p: u64, w: u64) -> bool
 {
     let a = rank_of(p);
     let b = rank_of(w);
-    (a < b) | ((a == b) & (heads_of(p) != heads_of(w)))
+    a < b || a == b && heads_of(p) != heads_of(w)
 }
 
 // Head q, of whom state st is held, is an other member that did not form session w.
