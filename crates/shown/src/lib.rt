@@ -18,7 +18,7 @@ pub fn put_field(printer: &mut Printer, n: u64)
     requires { Room 21 printer.old }
     ensures { Puts 21 (field n) printer.old printer.new }
 {
-    printer.put(32);
+    printer.put(b' ');
     printer.put_decimal(n);
 }
 
@@ -37,7 +37,7 @@ pub fn put_heads(printer: &mut Printer, w: u64)
     requires { Room 5 printer.old }
     ensures { Puts 5 (heads_text w) printer.old printer.new }
 {
-    printer.put(32);
+    printer.put(b' ');
     put_byte(printer, (w / 256 % 256) as u8);
     put_byte(printer, (w % 256) as u8);
 }
@@ -92,8 +92,8 @@ fn print_attempt(printer: &mut Printer, view: u64, sender: u64)
     requires { Room 44 printer.old }
     ensures { Puts 44 (attempt_text view sender) printer.old printer.new }
 {
-    put_head(printer, 65, view, sender);
-    printer.put(10);
+    put_head(printer, b'A', view, sender);
+    printer.put(b'\n');
 }
 
 #[tactic(auto, unfolding(crate::specs::Shown::state_text))]
@@ -101,9 +101,9 @@ fn print_state(printer: &mut Printer, view: u64, sender: u64, st: &State)
     requires { Room 112 printer.old }
     ensures { Puts 112 (state_text view sender st.now.number st.now.primary st.now.count) printer.old printer.new }
 {
-    put_head(printer, 83, view, sender);
+    put_head(printer, b'S', view, sender);
     put_values(printer, st.number as u64, st.primary, st.count as u64);
-    printer.put(10);
+    printer.put(b'\n');
 }
 
 // What is printed for a line that breaks a rule.
@@ -116,6 +116,7 @@ pub fn print_refused(printer: &mut Printer)
 }
 
 // Prints the answer to a line.
+#[tactic(auto, unfolding(lines::specs::Reading::breaks))]
 pub fn print(printer: &mut Printer, read: &Result<Frame, Rule>)
     requires { Room (room (read_of read.now).line) printer.old }
     ensures { Puts (room (read_of read.now).line) (shown (read_of read.now)) printer.old printer.new }
@@ -127,9 +128,9 @@ pub fn print(printer: &mut Printer, read: &Result<Frame, Rule>)
                 sender,
                 state,
             },
-        ) => print_state(printer, *view as u64, *sender as u64, state),
+        ) => print_state(printer, u64::from(*view), u64::from(*sender), state),
         Ok(Frame::Attempt { view, sender }) => {
-            print_attempt(printer, *view as u64, *sender as u64);
+            print_attempt(printer, u64::from(*view), u64::from(*sender));
         }
         Err(_) => print_refused(printer),
     }
