@@ -20,14 +20,14 @@ use Rattle.store.proofs.Laws.Program.{after_none, after_next, up_to-none}
 -- ---- the greatest number
 
 -- a chain over the places takes it as the definition does over their indexes
-pub greatest-places : (r : List ℕ) → fold (λ top w. max top (num w)) (max (number r) (num (primary r))) (places r) ≡ greatest r
+pub greatest-places : (r : List ℕ) → greatest r ≡ fold (λ top w. max top (num w)) (max (number r) (num (primary r))) (places r)
 unfolding greatest
 greatest-places r =
-    fold-chain (λ top w. max top (num w)) (higher r) (max (number r) (num (primary r))) (places r) 0 16 (length-places r)
-    (λ i s h. ap (λ (w : ℕ). max s (num w)) (place-in r i h))
+    sym (fold-chain (λ top w. max top (num w)) (higher r) (max (number r) (num (primary r))) (places r) 0 16 (length-places r)
+    (λ i s h. ap (λ (w : ℕ). max s (num w)) (place-in r i h)))
 
--- what a step makes, by its test
-pub ruleset steps = (formed-made, clear-made, wipe-made)
+-- what the greatest number is, and what a step makes by its test
+pub ruleset steps = (greatest-places, formed-made, clear-made, wipe-made)
 
 -- ---- all of a kind, as a loop takes the steps f 0, f 1, ..
 
