@@ -4,4 +4,5 @@ pub mod Words
 pub mod Formed
 pub mod Answers
 pub mod Quorum
+pub mod Fresh
 pub mod Cases

@@ -8,12 +8,12 @@ pub mod words;
 
 ghost use Rattle.std.specs.Prelude.{◌≡◌};
 ghost use Rattle.group.specs.Answers.{verdict};
-ghost use Rattle.group.specs.Fresh.{fresh_record, fresh_word};
+ghost use Rattle.group.specs.Fresh.{fresh_record};
 ghost use Rattle.group.specs.Quorum.{is_group, quorum_test};
 
 use crate::heads::{holds, size};
 use crate::quorum::sub_quorum;
-use crate::words::has_head;
+use crate::words::usual_formed;
 pub use answers::{Answer, Refusal};
 
 // The core group W0 and the minimum Q.
@@ -56,24 +56,17 @@ impl Group {
         Ok(sub_quorum(self.core, self.least, s, t))
     }
 
-    // Word k of the record that a start of head own leaves: word 3 is last primary, words 4 to 19 are last formed.
-    #[tactic(auto, unfolding(crate::specs::Fresh::fresh_word, crate::specs::Fresh::group_word))]
-    fn fresh_word(self, own: u8, k: usize) -> u64
-        ensures { result ≡ fresh_word self.core self.least own k }
-    {
-        let core = u64::from(self.core);
-        match k {
-            0 => core + u64::from(self.least) * 65536 + u64::from(own) * 16777216,
-            3 if holds(self.core, own) => core,
-            4..20 if holds(self.core, own) && has_head(core, k - 4) => core,
-            _ => 0,
-        }
-    }
-
     // The record that a start of head own leaves, for a group and a head that start takes.
     pub fn fresh(self, own: u8) -> [u64; Group::WORDS]
         ensures { result ≡ fresh_record self.core self.least own }
     {
-        std::array::from_fn(|k| self.fresh_word(own, k))
+        let core = u64::from(self.core);
+        let primary = if holds(self.core, own) { core } else { 0 };
+        let formed: [u64; Group::HEADS] = std::array::from_fn(|q| usual_formed(primary, q));
+        let mut words = [0; Group::WORDS];
+        words[0] = core + u64::from(self.least) * 65536 + u64::from(own) * 16777216;
+        words[3] = primary;
+        words[4..20].copy_from_slice(&formed);
+        words
     }
 }
