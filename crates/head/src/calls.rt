@@ -153,38 +153,42 @@ impl Session {
         }
     }
 
+    // Writes the state line, or says why not. The session is lent, so that it is handed back with no copy between.
     #[tactic(auto, using(crate::proofs::Laws::Calls::some_number, crate::proofs::Laws::Fits::usable_length), unfolding(crate::specs::Calls::write_state_spec, crate::specs::Refusals::write_state_refusal, crate::specs::Calls::writes))]
+    fn state_written(&self, rec: &[u64], out: &mut [u8]) -> Result<Answer, Refusal>
+        ensures { wrote out.new record { answer = result; session = self.now } ≡ write_state_spec self.now rec.now out.old }
+    {
+        let rec: &Record = rec.as_array().ok_or(Refusal::Record)?;
+        write_state_check(usable(self, rec), self.stage, out.len())?;
+        let length = write_state(out, self.view, own(rec) as u8, tell(rec));
+        Ok(Answer::Written(length))
+    }
+
     pub fn write_state(self, rec: &[u64], out: &mut [u8]) -> Next
         ensures { wrote out.new result ≡ write_state_spec self rec.now out.old }
     {
-        let Some(rec): Option<&Record> = rec.as_array() else {
-            return self.refused(Refusal::Record);
-        };
-        let fit = usable(&self, rec);
-        if let Err(why) = write_state_check(fit, self.stage, out.len()) {
-            return self.refused(why);
-        }
-        let length = write_state(out, self.view, own(rec) as u8, tell(rec));
         Next {
-            answer: Ok(Answer::Written(length)),
+            answer: self.state_written(rec, out),
             session: self,
         }
     }
 
+    // Writes the attempt line, or says why not.
     #[tactic(auto, using(crate::proofs::Laws::Calls::some_number, crate::proofs::Laws::Fits::usable_length), unfolding(crate::specs::Calls::write_attempt_spec, crate::specs::Refusals::write_attempt_refusal, crate::specs::Calls::writes))]
+    fn attempt_written(&self, rec: &[u64], out: &mut [u8]) -> Result<Answer, Refusal>
+        ensures { wrote out.new record { answer = result; session = self.now } ≡ write_attempt_spec self.now rec.now out.old }
+    {
+        let rec: &Record = rec.as_array().ok_or(Refusal::Record)?;
+        write_attempt_check(usable(self, rec), self.stage, out.len())?;
+        let length = write_attempt(out, self.view, own(rec) as u8);
+        Ok(Answer::Written(length))
+    }
+
     pub fn write_attempt(self, rec: &[u64], out: &mut [u8]) -> Next
         ensures { wrote out.new result ≡ write_attempt_spec self rec.now out.old }
     {
-        let Some(rec): Option<&Record> = rec.as_array() else {
-            return self.refused(Refusal::Record);
-        };
-        let fit = usable(&self, rec);
-        if let Err(why) = write_attempt_check(fit, self.stage, out.len()) {
-            return self.refused(why);
-        }
-        let length = write_attempt(out, self.view, own(rec) as u8);
         Next {
-            answer: Ok(Answer::Written(length)),
+            answer: self.attempt_written(rec, out),
             session: self,
         }
     }

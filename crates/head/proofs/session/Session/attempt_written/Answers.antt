@@ -6,14 +6,14 @@ use Rattle.lines.specs.Writing.{wrote, write_attempt}
 use Rattle.record.specs.Layout.{own}
 use Rattle.head.specs.Refusals.{write_attempt_refusal}
 use Rattle.head.proofs.Laws.Writing.{write-attempt-done}
-use Rattle.head.proofs.session.Session.write_attempt.Goals.{After-write_attempt-length}
-use Rattle.head.proofs.session.Session.write_attempt.Goals as goal
+use Rattle.head.proofs.session.Session.attempt_written.Goals.{After-write_attempt-length}
+use Rattle.head.proofs.session.Session.attempt_written.Goals as goal
 
-allowed : (c : After-write_attempt-length) → write_attempt_refusal c.args.self c.args.rec.now (length c.args.out.now) ≡ 0
+allowed : (c : After-write_attempt-length) → write_attempt_refusal c.args.self.now c.args.rec.now (length c.args.out.now) ≡ 0
 unfolding write_attempt_refusal
 allowed c = grind arith
 
-line : (c : After-write_attempt-length) → wrote c.write_attempt-length.result c.write_attempt-length.new.out ≡ write_attempt c.args.self.view (own c.args.rec.now) c.args.out.now
+line : (c : After-write_attempt-length) → wrote c.write_attempt-length.result c.write_attempt-length.new.out ≡ write_attempt c.args.self.now.view (own c.args.rec.now) c.args.out.now
 line c = grind arith
 
 pub returns : goal.returns
