@@ -1,9 +1,10 @@
-// The writers, straight into the lent output. `at` is a byte place of the frame, two characters each. Bytes are laid out in a block of at most 48 first, so that its characters are made many at once.
+// The writers, straight into the lent output. `at` is a byte place of the frame, two characters each.
 #![tactic(auto)]
 
-ghost use Rattle.std.specs.Prelude.{◌≡◌, ◌++◌, ◌∷◌, [], ◌+◌, ◌*◌, ◌≤◌, length, take, drop};
-ghost use Rattle.std.proofs.lemmas.List.Edits.{sets};
-ghost use Rattle.lines.specs.Writing.{bytes2, bytes4, bytes6, flat, head_bytes, place_bytes, attempt_line, state_line, spell, wrote, write_attempt, write_state};
+ghost use Rattle.std.specs.Prelude.{◌≡◌, ◌↔◌, IsSome, ◌++◌, ◌∷◌, [], ◌+◌, ◌*◌, ◌≤◌, get_or, length, take, drop};
+ghost use Rattle.std.specs.Option.{unwrap_or};
+ghost use Rattle.loops.specs.Below.{table};
+ghost use Rattle.lines.specs.Writing.{bytes4, bytes6, flat, head_bytes, attempt_line, state_line, spell, wrote, write_attempt, write_state};
 
 use group::Group;
 use hexadecimal::digit_of;
@@ -28,179 +29,97 @@ fn put_bytes(out: &mut [u8], at: usize, s: &[u8])
     requires { (at + length s.now) * 2 ≤ length out.old }
     ensures { out.new ≡ spell out.old at s.now }
 {
-    let mut i = 0;
-    while i < s.len() {
-        put_byte(out, at + i, s[i]);
-        i += 1;
+    for (i, b) in s.iter().enumerate() {
+        put_byte(out, at + i, *b);
     }
-}
-
-// Numbers as bytes of a block.
-fn lay_two(a: &mut [u8], at: usize, v: u64)
-    requires { at + 2 ≤ length a.old }
-    ensures { a.new ≡ sets a.old at (bytes2 v) }
-{
-    a[at] = (v / 256 % 256) as u8;
-    a[at + 1] = (v % 256) as u8;
-}
-
-fn lay_four(a: &mut [u8], at: usize, v: u64)
-    requires { at + 4 ≤ length a.old }
-    ensures { a.new ≡ sets a.old at (bytes4 v) }
-{
-    lay_two(a, at, v / 65536);
-    lay_two(a, at + 2, v % 65536);
-}
-
-fn lay_six(a: &mut [u8], at: usize, v: u64)
-    requires { at + 6 ≤ length a.old }
-    ensures { a.new ≡ sets a.old at (bytes6 v) }
-{
-    lay_four(a, at, v / 65536);
-    lay_two(a, at + 4, v % 65536);
 }
 
 // Kind, view and sender.
-fn lay_head(a: &mut [u8], kind: u8, view: u32, sender: u8)
-    requires { 6 ≤ length a.old }
-    ensures { a.new ≡ sets a.old 0 (head_bytes kind view sender) }
+fn head_bytes(kind: u8, view: u32, sender: u8) -> [u8; 6]
+    ensures { result ≡ head_bytes kind view sender }
 {
-    a[0] = kind;
-    lay_four(a, 1, view as u64);
-    a[5] = sender;
+    let [a, b, c, d] = view.to_be_bytes();
+    [kind, a, b, c, d, sender]
 }
 
-// Eight sessions.
-fn lay_eight(a: &mut [u8], words: &[u64], from: usize)
-    requires { (from + 8 ≤ length words.now) × (48 ≤ length a.old) }
-    ensures { a.new ≡ sets a.old 0 (flat (take 8 (drop from words.now))) }
+// A session: its number and its heads.
+fn session_bytes(w: u64) -> [u8; 6]
+    ensures { result ≡ bytes6 w }
 {
-    let mut i = 0;
-    while i < 8 {
-        lay_six(a, i * 6, words[from + i]);
-        i += 1;
+    let [_, _, a, b, c, d, e, f] = w.to_be_bytes();
+    [a, b, c, d, e, f]
+}
+
+// Eight sessions in one block, so that its characters are made many at once.
+fn block_bytes(words: &[u64; 8]) -> [[u8; 6]; 8]
+    ensures { result ≡ table 8 (λ k. bytes6 (get_or words.now k 0)) }
+{
+    let mut bytes = [[0u8; 6]; 8];
+    for (i, w) in words.iter().enumerate() {
+        bytes[i] = session_bytes(*w);
     }
+    bytes
 }
 
-fn put_six(out: &mut [u8], at: usize, v: u64)
-    requires { (at + 6) * 2 ≤ length out.old }
-    ensures { out.new ≡ spell out.old at (bytes6 v) }
+fn put_words(out: &mut [u8], at: usize, words: &[u64])
+    requires { (at + length words.now * 6) * 2 ≤ length out.old }
+    ensures { out.new ≡ spell out.old at (flat words.now) }
 {
-    let mut a = [0u8; 6];
-    lay_six(&mut a, 0, v);
-    put_bytes(out, at, &a);
-}
-
-fn put_eight(out: &mut [u8], at: usize, words: &[u64], from: usize)
-    requires { (from + 8 ≤ length words.now) × ((at + 48) * 2 ≤ length out.old) }
-    ensures { out.new ≡ spell out.old at (flat (take 8 (drop from words.now))) }
-{
-    let mut a = [0u8; 48];
-    lay_eight(&mut a, words, from);
-    put_bytes(out, at, &a);
-}
-
-// Of the first n sessions those in whole blocks of eight, and how many these are.
-fn put_blocks(out: &mut [u8], at: usize, words: &[u64], n: usize) -> usize
-    requires { (n ≤ length words.now) × ((at + n * 6) * 2 ≤ length out.old) }
-    ensures { (result ≤ n) × (out.new ≡ spell out.old at (flat (take result words.now))) }
-{
-    let mut i = 0;
-    while 8 <= n - i {
-        put_eight(out, at + i * 6, words, i);
-        i += 8;
+    let (blocks, rest) = words.as_chunks::<8>();
+    for (i, block) in blocks.iter().enumerate() {
+        put_bytes(out, at + i * 48, block_bytes(block).as_flattened());
     }
-    i
-}
-
-// The first n sessions.
-fn put_words(out: &mut [u8], at: usize, words: &[u64], n: usize)
-    requires { (n ≤ length words.now) × ((at + n * 6) * 2 ≤ length out.old) }
-    ensures { out.new ≡ spell out.old at (flat (take n words.now)) }
-{
-    let mut i = put_blocks(out, at, words, n);
-    while i < n {
-        put_six(out, at + i * 6, words[i]);
-        i += 1;
+    let from = blocks.len() * 8;
+    for (i, w) in rest.iter().enumerate() {
+        put_bytes(out, at + (from + i) * 6, &session_bytes(*w));
     }
-}
-
-// Kind, view, sender, session number and last primary.
-fn put_start(out: &mut [u8], view: u32, sender: u8, st: State)
-    requires { 32 ≤ length out.old }
-    ensures { out.new ≡ spell out.old 0 (head_bytes 1 view sender ++ bytes4 st.number ++ bytes6 st.primary) }
-{
-    let mut a = [0u8; 16];
-    lay_head(&mut a, 1, view, sender);
-    lay_four(&mut a, 6, st.number as u64);
-    lay_six(&mut a, 10, st.primary);
-    put_bytes(out, 0, &a);
-}
-
-// The last formed.
-fn put_formed(out: &mut [u8], st: State)
-    requires { 224 ≤ length out.old }
-    ensures { out.new ≡ spell out.old 16 (flat st.formed) }
-{
-    let formed = st.formed;
-    put_words(out, 16, &formed, Group::HEADS);
-}
-
-// The count and the places.
-fn put_places(out: &mut [u8], st: State)
-    requires { (st.count ≤ 16) × (418 ≤ length out.old) }
-    ensures { out.new ≡ spell out.old 112 (place_bytes st) }
-{
-    let places = st.places;
-    let count = st.count;
-    put_byte(out, 112, count as u8);
-    put_words(out, 113, &places, count);
 }
 
 fn put_attempt(out: &mut [u8], view: u32, sender: u8)
     requires { 13 ≤ length out.old }
     ensures { out.new ≡ attempt_line view sender ++ drop 13 out.old }
 {
-    let mut a = [0u8; 6];
-    lay_head(&mut a, 2, view, sender);
-    put_bytes(out, 0, &a);
-    out[12] = 10;
+    put_bytes(out, 0, &head_bytes(2, view, sender));
+    out[12] = b'\n';
 }
 
-fn put_state(out: &mut [u8], view: u32, sender: u8, st: State)
-    requires { (st.count ≤ 16) × (419 ≤ length out.old) }
-    ensures { out.new ≡ state_line view sender st ++ drop (227 + 12 * st.count) out.old }
+fn put_state(out: &mut [u8], view: u32, sender: u8, st: &State)
+    requires { (st.now.count ≤ 16) × (419 ≤ length out.old) }
+    ensures { out.new ≡ state_line view sender st.now ++ drop (227 + 12 * st.now.count) out.old }
 {
-    put_start(out, view, sender, st);
-    put_formed(out, st);
-    put_places(out, st);
-    let count = st.count;
-    let end = 226 + 12 * count;
-    out[end] = 10;
+    put_bytes(out, 0, &head_bytes(1, view, sender));
+    put_bytes(out, 6, &st.number.to_be_bytes());
+    put_bytes(out, 10, &session_bytes(st.primary));
+    put_words(out, 16, &st.formed);
+    put_bytes(out, 112, &[st.count as u8]);
+    put_words(out, 113, &st.places[..st.count]);
+    out[226 + 12 * st.count] = b'\n';
 }
 
-// Writes an attempt line and answers with its length, or leaves an output that is too short and answers 0.
-pub fn write_attempt(out: &mut [u8], view: u32, sender: u8) -> usize
-    ensures { wrote result out.new ≡ write_attempt view sender out.old }
+// Writes an attempt line and answers with its length, or leaves an output that is too short.
+pub fn write_attempt(out: &mut [u8], view: u32, sender: u8) -> Option<usize>
+    ensures written { wrote (unwrap_or result 0) out.new ≡ write_attempt view sender out.old }
+    ensures room { IsSome result ↔ (13 ≤ length out.old) }
 {
     if out.len() < ATTEMPT_ROOM {
-        return 0;
+        return None;
     }
     put_attempt(out, view, sender);
-    ATTEMPT_ROOM
+    Some(ATTEMPT_ROOM)
 }
 
-// Writes a state line and answers with its length, or leaves an output that is too short and answers 0. A state of more than 16 places has no line.
-pub fn write_state(out: &mut [u8], view: u32, sender: u8, st: State) -> usize
-    ensures { wrote result out.new ≡ write_state view sender st out.old }
+// Writes a state line and answers with its length, or leaves an output that is too short. A state of more than 16 places has no line.
+pub fn write_state(out: &mut [u8], view: u32, sender: u8, st: &State) -> Option<usize>
+    ensures written { wrote (unwrap_or result 0) out.new ≡ write_state view sender st.now out.old }
+    ensures room { IsSome result ↔ ((st.now.count ≤ 16) × (419 ≤ length out.old)) }
 {
     let count = st.count;
     if Group::PLACES < count {
-        return 0;
+        return None;
     }
     if out.len() < STATE_ROOM {
-        return 0;
+        return None;
     }
     put_state(out, view, sender, st);
-    227 + 12 * count
+    Some(227 + 12 * count)
 }

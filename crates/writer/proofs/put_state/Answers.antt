@@ -1,25 +1,27 @@
--- Start, last formed and places are the frame, spelled from the start, and the newline makes it a line.
-use mathlib.Core.List.{◌++◌}
-use lib.ListN.{length-append, length, length-set}
-use Rattle.lines.proofs.Laws.Writing.{length-head, length-start, length_fields, start-fields, state-line, spell-then}
-use Rattle.lines.specs.Writing.{bytes4, bytes6, field_bytes, head_bytes, spell}
-use Prim.Native.Nat.{◌+◌}
+-- The parts are the frame, spelled from the start, and the newline makes it a line.
+use mathlib.Core.List.{◌++◌, ◌∷◌, [], append_assoc}
 use mathlib.Core.Path.{◌≡◌, ◌∙◌, ap}
 use native.Mathlib.Omega.{arith}
+use lib.ListN.{length-append, length, take}
+use Rattle.lines.specs.Writing.{bytes4, bytes6, flat, field_bytes, place_bytes, head_bytes, spell}
+use Rattle.lines.proofs.Laws.Writing.{length-head, length-six, length-start, length_fields, start-fields, state-line, spell-then}
+use Rattle.writer.proofs.Laws.{four-bytes}
 use Rattle.writer.proofs.put_state.Goals as goal
 
-pub shape_of-out : goal.shape_of-out
-shape_of-out c = simp length-set (omega arith)
-
 pub returns : goal.returns
+unfolding place_bytes
 returns c =
-    let st = c.args.st in
+    let st = c.args.st.now in
     let head = head_bytes 1 c.args.view c.args.sender in
-    let g = c.well_formed.1.1.1.0.1.1.1.1 in
-    let formed : length st.formed ≡ 16 = g.0.1.0.1 in
-    let places : length st.places ≡ 16 = g.1.1.0.1.0.1 in
-    let a : 16 ≡ 0 + length (head ++ bytes4 st.number ++ bytes6 st.primary) = omega (arith, length-start 1 c.args.view c.args.sender st.number st.primary) in
-    let b : 112 ≡ 0 + length (head ++ field_bytes st) = omega (arith, length-head 1 c.args.view c.args.sender, length-append head (field_bytes st), length_fields st formed) in
-    let f = spell-then _ _ _ _ _ _ _ c.put_start.ensures a c.put_formed.ensures ∙ ap (spell _ 0) (start-fields head st) in
-    let w = spell-then _ _ _ _ _ _ _ f b c.put_places.ensures in
-    state-line _ _ _ _ st formed (omega (arith, c.requires)) (omega (arith, c.requires)) w
+    let formed : length st.formed ≡ 16 = omega arith in
+    let places : length st.places ≡ 16 = omega arith in
+    let six = length-head 1 c.args.view c.args.sender in
+    let start = length-start 1 c.args.view c.args.sender st.number st.primary in
+    let number : c.to_be_bytes.result ≡ bytes4 st.number = c.to_be_bytes.ensures ∙ four-bytes st.number in
+    let u = c.put_bytes.ensures ∙ ap (spell _ 0) c.head_bytes.ensures in
+    let v = spell-then _ _ _ _ _ _ _ u (omega (arith, six)) (c.put_bytes-2.ensures ∙ ap (spell _ 6) number) in
+    let w = spell-then _ _ _ _ _ _ _ v (omega (arith, start, length-append (head ++ bytes4 st.number) (bytes6 st.primary), length-six st.primary)) (c.put_bytes-3.ensures ∙ ap (spell _ 10) c.session_bytes.ensures) in
+    let x = spell-then _ _ _ _ _ _ _ w (omega (arith, start)) c.put_words.ensures ∙ ap (spell _ 0) (start-fields head st) in
+    let y = spell-then _ _ _ _ _ _ _ x (omega (arith, six, length-append head (field_bytes st), length_fields st formed)) c.put_bytes-4.ensures in
+    let z = spell-then _ _ _ _ _ _ _ y (omega (arith, six, length-append (head ++ field_bytes st) (st.count ∷ []), length-append head (field_bytes st), length_fields st formed)) c.put_words-2.ensures ∙ ap (spell _ 0) (append_assoc (head ++ field_bytes st) (st.count ∷ []) (flat (take st.count st.places))) in
+    state-line _ _ _ _ st formed (omega arith) (omega arith) z

@@ -1,13 +1,12 @@
--- Before each turn the first i sessions are spelled, if those of the whole blocks were.
-use Rattle.lines.specs.Writing.{flat, spell}
-use lib.ListN.{length, take}
-use Prim.Native.Nat.{ℕ, ◌≤◌, ◌-◌}
-use mathlib.Core.List.{List}
+-- Before each turn the sessions before it are spelled: those of whole blocks, and then the others.
 use mathlib.Core.Path.{◌≡◌}
+use Prim.Native.Nat.{◌+◌, ◌*◌}
+use lib.ListN.{take}
+use Rattle.lines.specs.Writing.{flat, spell}
 use Rattle.writer.proofs.put_words.Given as goal
 
 abbrev pub invariant-loop-i : goal.invariant-loop-i
-invariant-loop-i l = (l.i ≤ l.n) × (length l.out ≡ length l.initial.out) × ((d : List ℕ) → l.initial.out ≡ spell d l.at (flat (take l.initial.i l.words)) → l.out ≡ spell d l.at (flat (take l.i l.words)))
+invariant-loop-i l = l.out ≡ spell l.fn.out l.at (flat (take (l.i * 8) l.words))
 
-abbrev pub decreases-loop-i : goal.decreases-loop-i
-decreases-loop-i l = l.n - l.i
+abbrev pub invariant-loop-i-2 : goal.invariant-loop-i-2
+invariant-loop-i-2 l = l.out ≡ spell l.fn.out l.at (flat (take (l.from + l.i) l.words))
