@@ -54,9 +54,6 @@ formed r = table 16 (formed_for r)
 unfoldable pub places : List ℕ → List ℕ
 places r = table 16 (place_at r)
 
-unfoldable pub marks : List ℕ → List ℕ
-marks r = table 16 (marks_at r)
-
 -- the stores, by name: "Words are stored singly"
 
 unfoldable pub store_settings : ℕ → Store

@@ -1,11 +1,11 @@
 // Which word of the record holds what: its fields, their stores under a pen, and their writes in a copy. No other file knows it.
-#![tactic(auto, using(crate::proofs::Laws::Words::slices, crate::proofs::Laws::Words::fields), unfolding(crate::specs::Layout::settings, crate::specs::Layout::core, crate::specs::Layout::least, crate::specs::Layout::own, crate::specs::Layout::entered, crate::specs::Layout::number, crate::specs::Layout::primary, crate::specs::Layout::formed_for, crate::specs::Layout::place_at, crate::specs::Layout::marks_at, crate::specs::Layout::formed, crate::specs::Layout::places, crate::specs::Layout::marks, crate::specs::Layout::store_entered, crate::specs::Layout::store_number, crate::specs::Layout::store_primary, crate::specs::Layout::store_formed, crate::specs::Layout::store_place, crate::specs::Layout::store_marks, store::specs::Desk::stored))]
+#![tactic(auto, using(crate::proofs::Laws::Words::slices, crate::proofs::Laws::Words::fields), unfolding(crate::specs::Layout::settings, crate::specs::Layout::core, crate::specs::Layout::least, crate::specs::Layout::own, crate::specs::Layout::entered, crate::specs::Layout::number, crate::specs::Layout::primary, crate::specs::Layout::formed_for, crate::specs::Layout::place_at, crate::specs::Layout::marks_at, crate::specs::Layout::formed, crate::specs::Layout::places, crate::specs::Layout::store_entered, crate::specs::Layout::store_number, crate::specs::Layout::store_primary, crate::specs::Layout::store_formed, crate::specs::Layout::store_place, crate::specs::Layout::store_marks, store::specs::Desk::stored))]
 
 ghost use Rattle.std.specs.Prelude.{◌≡◌, ◌+◌, ◌<◌, ◌≤◌};
 ghost use Rattle.loops.specs.Below.{table};
 ghost use Rattle.store.specs.Desk.{desk, stored, put_to, run, store_if, where_changed};
 ghost use Rattle.store.specs.Program.{exec};
-ghost use Rattle.record.specs.Layout.{word, settings, core, least, own, entered, number, primary, formed_for, place_at, marks_at, formed, places, marks, field_store, field_at, InRecord};
+ghost use Rattle.record.specs.Layout.{word, settings, core, least, own, entered, number, primary, formed_for, place_at, marks_at, formed, places, field_store, field_at, InRecord};
 ghost use Rattle.record.specs.Replacing.{store_record};
 
 use group::Group;
@@ -142,12 +142,6 @@ pub fn places(rec: &Record) -> &[u64]
     ensures { result.now ≡ places rec.now }
 {
     sixteen(rec, Field::Place(0))
-}
-
-pub fn marks(rec: &Record) -> &[u64]
-    ensures { result.now ≡ marks rec.now }
-{
-    sixteen(rec, Field::Marks(0))
 }
 
 pub fn put(rec: &mut Record, pen: Pen, field: Field, w: u64) -> Pen

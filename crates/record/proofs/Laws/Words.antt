@@ -11,7 +11,7 @@ use Rattle.loops.proofs.Laws.Lists.{table_is, length-table, get_d-table}
 use Rattle.store.specs.Desk.{store, where_changed}
 use Rattle.store.specs.Program.{Step, up_to}
 use Rattle.store.proofs.Laws.Program.{up_to-none, up_to-next}
-use Rattle.record.specs.Layout.{word, settings, entered, number, primary, formed_for, place_at, marks_at, formed, places, marks, field_store, field_at, InRecord, store_settings, store_entered, store_number, store_primary, store_formed, store_place, store_marks}
+use Rattle.record.specs.Layout.{word, settings, entered, number, primary, formed_for, place_at, marks_at, formed, places, field_store, field_at, InRecord, store_settings, store_entered, store_number, store_primary, store_formed, store_place, store_marks}
 use Rattle.record.specs.declared.layout.Field.{Field}
 use Rattle.record.specs.declared.layout.Field.TheVariants.{Entered, Number, Primary, Formed, Place, Marks}
 use Rattle.record.specs.Replacing.{store_record}
@@ -35,23 +35,11 @@ pub length-places : (r : List ℕ) → length (places r) ≡ 16
 unfolding places
 length-places r = length-table 16 (place_at r)
 
-pub length-marks : (r : List ℕ) → length (marks r) ≡ 16
-unfolding marks
-length-marks r = length-table 16 (marks_at r)
-
-pub ruleset sixteen = (length-formed, length-places, length-marks)
-
-pub formed-in : (r : List ℕ) (q : ℕ) → q < 16 → get_or (formed r) q 0 ≡ formed_for r q
-unfolding formed
-formed-in r q h = get_d-table 16 (formed_for r) q 0 h
+pub ruleset sixteen = (length-formed, length-places)
 
 pub place-in : (r : List ℕ) (i : ℕ) → i < 16 → get_or (places r) i 0 ≡ place_at r i
 unfolding places
 place-in r i h = get_d-table 16 (place_at r) i 0 h
-
-pub marks-in : (r : List ℕ) (i : ℕ) → i < 16 → get_or (marks r) i 0 ≡ marks_at r i
-unfolding marks
-marks-in r i h = get_d-table 16 (marks_at r) i 0 h
 
 -- ---- a field is one word of the record
 
