@@ -14,31 +14,23 @@ use group::words::{
     formed_fits, formed_ok, has_head, number_of, primary_ok, rank_of, sound, usual_formed,
 };
 
-// What rules 1 to 7 of a line are about, in their order.
-#[derive(Clone, Copy)]
+// The rules of a line, numbered as document 01 and the caller have them.
+#[derive(Clone, Copy, Debug, PartialEq, Eq)]
 pub enum Rule {
-    Digits,
-    Length,
-    Head,
-    Empty,
-    Formed,
-    Places,
-    Numbers,
+    Digits = 1,
+    Length = 2,
+    Head = 3,
+    Empty = 4,
+    Formed = 5,
+    Places = 6,
+    Numbers = 7,
 }
 
 impl From<Rule> for u8 {
     ghost from_gives = { λ rule number. number ≡ number_of_rule rule };
 
     fn from(rule: Rule) -> u8 {
-        match rule {
-            Rule::Digits => 1,
-            Rule::Length => 2,
-            Rule::Head => 3,
-            Rule::Empty => 4,
-            Rule::Formed => 5,
-            Rule::Places => 6,
-            Rule::Numbers => 7,
-        }
+        rule as u8
     }
 }
 
