@@ -150,14 +150,6 @@ after-lines buf w n fits = go (eqb n 0)
 pub filled-lines : (old buf : List ℕ) (w r : World) → Filled old buf w r → Lines buf w r
 filled-lines old buf w r f = subst (λ (x : World). Lines buf w x) (sym f.is) (after-lines buf w (brought w f.answer) (brought-most w f.answer))
 
--- a read uses up one that was left to make
-pub filled-fewer : (old buf : List ℕ) (w r : World) → Filled old buf w r → 0 < w.turns → r.turns < w.turns
-filled-fewer old buf w r f more = subst (λ (x : World). x.turns < w.turns) (sym f.is) (go (eqb (brought w f.answer) 0))
-  where
-    go : (c : Bool) → (cond c (at_read w 0 (held_count w) 0) (at_read w (lines_end (take (held_count w + brought w f.answer) buf)) (held_count w + brought w f.answer) (w.turns - 1))).turns < w.turns
-    go true = more
-    go false = omega arith
-
 -- what a write leaves, whatever it answered
 pub record Kept (w r : World) : Type 0 where
   pub views : r.views ≡ w.views

@@ -1,17 +1,25 @@
-// The sixteen heads of the bench stand in one lent table. Each function over the table is thin; what a head does is a function by value.
+// The sixteen heads of the bench stand in one table, which is lent. Each function over the table is thin; what a head does is a function by value.
 #![tactic(auto)]
 
 ghost use Rattle.std.specs.Prelude.{◌≡◌, ◌<◌, length, replicate};
 ghost use Rattle.seat.specs.Seat.{empty_seat};
 ghost use Rattle.worlds.specs.Bench.{start_last, all_started};
-ghost use Rattle.worlds.specs.Desk.{bench_of, Ready, Turned, Fed};
+ghost use Rattle.worlds.specs.Desk.{Turned, Fed};
 ghost use Rattle.table.specs.Acts.{Acted};
+ghost use Rattle.table.specs.Held.{Holds, stands_for};
 
 use asking::{Order, World, asked};
 use deeds::{Deed, What};
 use group::Group;
 use noting::told;
 use seat::{Seat, empty_seat, played, starts};
+
+// The most views and formed sessions, and room for what the lines of a read print.
+pub const VIEWS: usize = 1000;
+
+pub const SESSIONS: usize = 1001;
+
+pub const OUTPUT: usize = 196608;
 
 // Sixteen heads before their group line.
 pub fn new_table() -> [Seat; Group::HEADS]
@@ -31,8 +39,7 @@ pub fn act(table: &mut [Seat], o: Order) -> Deed
 }
 
 // A group line starts all sixteen heads, one after the other.
-fn start_all(table: &mut [Seat], core: u16, least: u8)
-    requires { length table.old ≡ 16 }
+fn start_all(table: &mut [Seat; Group::HEADS], core: u16, least: u8)
     ensures { table.new ≡ start_last core least 16 table.old }
 {
     for (p, seat) in table.iter_mut().enumerate() {
@@ -41,8 +48,7 @@ fn start_all(table: &mut [Seat], core: u16, least: u8)
 }
 
 // What a group line does to the table besides; of other events nothing.
-fn open(table: &mut [Seat], what: What)
-    requires { length table.old ≡ 16 }
+fn open(table: &mut [Seat; Group::HEADS], what: What)
     ensures { table.new ≡ all_started what table.old }
 {
     if let What::Open { core, least } = what {
@@ -50,41 +56,35 @@ fn open(table: &mut [Seat], what: What)
     }
 }
 
-// One turn of the bench: what the next line asks, what the head does, what is kept and printed of it.
-pub fn turn(
-    table: &mut [Seat],
-    views: &mut [u64],
-    formed: &mut [u64],
-    s: &[u8],
-    out: &mut [u8],
-    w: World,
-) -> World
-    requires { (w.at < w.stop) × Ready table.old views.old formed.old s.now out.old w }
-    ensures { Ready table.new views.new formed.new s.now out.new result
-        × Turned s.now w (bench_of table.old views.old formed.old out.old w) (bench_of table.new views.new formed.new out.new result) result }
-{
-    let o = asked(views, s, w);
-    let d = act(table, o);
-    open(table, o.what);
-    told(formed, out, w, o, d)
+// What the bench holds from read to read. Memory is fixed: each list has room for the most, and the world has its count.
+#[derive(Drop)]
+pub struct Desk {
+    pub table: [Seat; Group::HEADS],
+    pub views: [u64; VIEWS],
+    pub formed: [u64; SESSIONS],
+    pub out: [u8; OUTPUT],
+    pub world: World,
 }
 
-// All whole lines of a part of the input, in order.
-pub fn feed(
-    table: &mut [Seat],
-    views: &mut [u64],
-    formed: &mut [u64],
-    s: &[u8],
-    out: &mut [u8],
-    w: World,
-) -> World
-    requires { Ready table.old views.old formed.old s.now out.old w }
-    ensures { Ready table.new views.new formed.new s.now out.new result
-        × Fed s.now w (bench_of table.old views.old formed.old out.old w) (bench_of table.new views.new formed.new out.new result) result }
-{
-    let mut w = w;
-    while w.at < w.stop {
-        w = turn(table, views, formed, s, out, w);
+impl Desk {
+    // One turn of the bench: what the next line asks, what the head does, what is kept and printed of it.
+    pub fn turn(&mut self, s: &[u8])
+        requires { (self.old.world.at < self.old.world.stop) × Holds s.now self.old }
+        ensures { Holds s.now self.new × Turned s.now self.old.world (stands_for self.old) (stands_for self.new) self.new.world }
+    {
+        let o = asked(&mut self.views, s, self.world);
+        let d = act(&mut self.table, o);
+        open(&mut self.table, o.what);
+        self.world = told(&mut self.formed, &mut self.out, self.world, o, d);
     }
-    w
+
+    // All whole lines of a part of the input, in order.
+    pub fn feed(&mut self, s: &[u8])
+        requires { Holds s.now self.old }
+        ensures { Holds s.now self.new × Fed s.now self.old.world (stands_for self.old) (stands_for self.new) self.new.world }
+    {
+        while self.world.at < self.world.stop {
+            self.turn(s);
+        }
+    }
 }

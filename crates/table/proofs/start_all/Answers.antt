@@ -1,6 +1,6 @@
 -- Each head is started at its place.
 use Rattle.std.proofs.Common.{◌∙◌, ◌+◌, ◌-◌, sym, ap, arith}
-use Rattle.std.proofs.Math.ListN.{set, length-set}
+use Rattle.std.proofs.Math.ListN.{set}
 use Rattle.seat.specs.Played.{Played}
 use Rattle.worlds.specs.Bench.{start_last}
 use Rattle.worlds.proofs.Laws.Turn.{start-one, start-none}
@@ -9,12 +9,10 @@ use Rattle.table.proofs.start_all.Goals as goal
 pub loop-p-preserved : goal.loop-p-preserved
 loop-p-preserved c =
     let l = c.loop-p in
-    let a = c.args in (
-      length-set l.table l.p c.starts.result.seat ∙ l.invariant.0,
-      ap (λ (x : Played). start_last a.core a.least (16 - (l.p + 1)) (set l.table l.p x.seat)) c.starts.ensures ∙ start-one l.p a.core a.least l.table (omega arith) ∙ l.invariant.1,
-    )
+    let a = c.args in
+    ap (λ (x : Played). start_last a.core a.least (16 - (l.p + 1)) (set l.table l.p x.seat)) c.starts.ensures ∙ start-one l.p a.core a.least l.table (omega arith) ∙ l.invariant
 
 pub returns : goal.returns
 returns c =
     let l = c.loop-p in
-    sym (start-none l.p c.args.core c.args.least l.table (omega arith)) ∙ l.invariant.1
+    sym (start-none l.p c.args.core c.args.least l.table (omega arith)) ∙ l.invariant
