@@ -160,7 +160,7 @@ impl Session {
     {
         let rec: &Record = rec.as_array().ok_or(Refusal::Record)?;
         write_state_check(usable(self, rec), self.stage, out.len())?;
-        let length = write_state(out, self.view, own(rec) as u8, tell(rec));
+        let length = write_state(out, self.view, own(rec) as u8, &tell(rec)).ok_or(Refusal::Short)?;
         Ok(Answer::Written(length))
     }
 
@@ -180,7 +180,7 @@ impl Session {
     {
         let rec: &Record = rec.as_array().ok_or(Refusal::Record)?;
         write_attempt_check(usable(self, rec), self.stage, out.len())?;
-        let length = write_attempt(out, self.view, own(rec) as u8);
+        let length = write_attempt(out, self.view, own(rec) as u8).ok_or(Refusal::Short)?;
         Ok(Answer::Written(length))
     }
 
