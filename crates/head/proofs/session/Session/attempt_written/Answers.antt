@@ -1,8 +1,7 @@
 -- The output has room for the line, so it was written.
-use mathlib.Core.Path.{◌≡◌, sym, ap, ◌∙◌}
+use mathlib.Core.Path.{◌≡◌, sym, ◌∙◌}
 use native.Mathlib.Omega.{arith}
 use lib.ListN.{length}
-use Prim.Native.Nat.{ℕ}
 use Rattle.lines.specs.Writing.{wrote, write_attempt}
 use Rattle.record.specs.Layout.{own}
 use Rattle.head.specs.Refusals.{write_attempt_refusal}
