@@ -1,2 +1,2 @@
--- What a loop over 0, 1, .., n - 1 computes. Every loop of the project is proved against one of these.
+-- What a loop or a chain over 0, 1, .., n - 1 computes. Those of the project are proved against these.
 pub mod Below

@@ -48,7 +48,7 @@ fn all_within(words: &[u64], top: u64) -> bool
     words.iter().all(|w| number_of(*w) <= top)
 }
 
-// Every last formed is what it nearly always is.
+// Every last formed is what it nearly always is. A fold, here and below: a chain that ends at the first failure is no vector loop.
 fn all_usual(p: u64, words: &[u64; Group::HEADS]) -> bool
     ensures { result ≡ fold (λ (ok : Bool) (x : ℕ × ℕ). ok && eqb x.1 (cond (has p x.0) p 0)) true (enumerate_from 0 words.now) }
 {

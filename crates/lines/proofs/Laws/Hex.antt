@@ -99,10 +99,6 @@ pub line-end-step : (s : List ℕ) (i : ℕ) → i < length s → line_end (drop
 unfolding line_end
 line-end-step s i h = rw (add-one, drop-cons s i 0)
 
-pub line-end-none : (s : List ℕ) (i : ℕ) → length s ≤ i → line_end (drop i s) ≡ 0
-unfolding line_end
-line-end-none s i h = ap line_end (lib.ListN.drop_of_length-le s {i = i} h)
-
 -- past n characters of which none is a newline
 pub line-end-past : (s : List ℕ) (i n : ℕ) → i + n ≤ length s → ((k : ℕ) → k < n → eqb (get_or s (i + k) 0) 10 ≡ false)
     → line_end (drop i s) ≡ n + line_end (drop (i + n) s)

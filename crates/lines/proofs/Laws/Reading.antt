@@ -29,14 +29,6 @@ pub head_ok : (f : List ℕ) → (view_of f ≡ 0 → ⊥) → sender_of f ≤ 1
 unfolding rule3
 head_ok f v s = simp (ne_eqb _ _ v, le-leb _ _ s)
 
-pub no_view : (f : List ℕ) → view_of f ≡ 0 → rule3 f ≡ false
-unfolding rule3
-no_view f e = rw e
-
-pub no_sender : (f : List ℕ) → 15 < sender_of f → rule3 f ≡ false
-unfolding rule3
-no_sender f h = simp (lt-leb _ _ h, mathlib.Core.Bool.and-false)
-
 -- ---- rule 2 of a state
 
 pub fits-true : (n : ℕ) (f : List ℕ) → state_fits n f ≡ true → (count_of f ≤ 16) × (n ≡ 226 + 12 * count_of f)

@@ -8,7 +8,7 @@ use native.Mathlib.Numerals.{add-one}
 use native.Mathlib.Omega.{arith}
 use borrow.Author.Tests.{le-leb, lt-leb}
 use lib.ListN.{length, get_or, take, drop, set, length-append}
-use lib.Seq.{sets, sets-eq, take-suc, take-add, drop-length, length-take-le}
+use lib.Seq.{sets, sets-eq, take-suc, take-add, length-take-le}
 use Rattle.state.specs.declared.State.{State}
 use Rattle.lines.specs.Hex.{digit, hex_of}
 use Rattle.lines.specs.Writing.{bytes2, bytes4, bytes6, flat, head_bytes, field_bytes, place_bytes, attempt_frame, state_frame, line_for, attempt_line, state_line, spell, wrote, write_attempt, write_state}
@@ -57,54 +57,14 @@ sets-append l i (a ∷ vs) ws =
     ap (λ (k : ℕ). sets (sets (set l i a) (suc i) vs) k ws) (add-suc i (length vs) ∙ sym (suc-add i (length vs)))
     ∙ sets-append (set l i a) (suc i) vs ws
 
--- bytes laid out one piece after another are laid out together
-sets_then : (d e g : List ℕ) (at k : ℕ) (f h : List ℕ) → e ≡ sets d at f → k ≡ at + length f → g ≡ sets e k h → g ≡ sets d at (f ++ h)
-sets_then d e g at k f h p q r = r ∙ (ap (λ (x : List ℕ). sets x k h) p ∙ (ap (λ (x : ℕ). sets (sets d at f) x h) q ∙ sets-append d at f h))
-
-pub sets-two : (d : List ℕ) (at a b : ℕ) → set (set d at a) (at + 1) b ≡ sets d at (a ∷ b ∷ [])
-sets-two d at a b = rw (add-one at)
-
-module _ (d e g : List ℕ) (at v : ℕ) where
-  pub four-laid : e ≡ sets d at (bytes2 (v / 65536)) → g ≡ sets e (at + 2) (bytes2 (v % 65536)) → g ≡ sets d at (bytes4 v)
-  unfolding bytes4 bytes2
-  four-laid p q = sets_then d e g at (at + 2) (bytes2 (v / 65536)) (bytes2 (v % 65536)) p refl q
-
-  pub six-laid : e ≡ sets d at (bytes4 (v / 65536)) → g ≡ sets e (at + 4) (bytes2 (v % 65536)) → g ≡ sets d at (bytes6 v)
-  unfolding bytes6 bytes4 bytes2
-  six-laid p q = sets_then d e g at (at + 4) (bytes4 (v / 65536)) (bytes2 (v % 65536)) p refl q
-
 pub length-six : (v : ℕ) → length (bytes6 v) ≡ 6
 unfolding bytes6 bytes4 bytes2
 length-six v = refl
-
-pub head-laid : (d g : List ℕ) (kind view sender : ℕ) → g ≡ sets (set d 0 kind) 1 (bytes4 view) → set g 5 sender ≡ sets d 0 (head_bytes kind view sender)
-unfolding head_bytes bytes4 bytes2
-head-laid d g kind view sender p = ap (λ (x : List ℕ). set x 5 sender) p
 
 -- the start of a state's frame
 pub length-start : (k v s n p : ℕ) → length (head_bytes k v s ++ bytes4 n ++ bytes6 p) ≡ 16
 unfolding head_bytes bytes6 bytes4 bytes2
 length-start k v s n p = refl
-
-pub start-laid : (d e f g : List ℕ) (head : List ℕ) (n p : ℕ) → length head ≡ 6 → e ≡ sets d 0 head → f ≡ sets e 6 (bytes4 n) → g ≡ sets f 10 (bytes6 p)
-    → g ≡ sets d 0 (head ++ bytes4 n ++ bytes6 p)
-unfolding bytes6 bytes4 bytes2
-start-laid d e f g head n p l q r s =
-    let k : 10 ≡ 0 + length (head ++ bytes4 n) = omega (arith, l, length-append head (bytes4 n)) in
-    sets_then d f g 0 10 (head ++ bytes4 n) (bytes6 p) (sets_then d e f 0 6 head (bytes4 n) q (omega (arith, l)) r) k s
-
--- one more session of a block
-pub words-laid : (d e g ws : List ℕ) (i k w : ℕ) → i < length ws → k ≡ i * 6 → w ≡ get_or ws i 0 → e ≡ sets d 0 (flat (take i ws)) → g ≡ sets e k (bytes6 w)
-    → g ≡ sets d 0 (flat (take (i + 1) ws))
-words-laid d e g ws i k w h m n p q =
-    let l : k ≡ 0 + length (flat (take i ws)) = omega (arith, m, length-flat-take ws i (omega arith)) in
-    sets_then d e g 0 k (flat (take i ws)) (bytes6 w) p l q ∙ ap (sets d 0) (ap (λ (x : ℕ). flat (take i ws) ++ bytes6 x) n ∙ flat-take ws i h)
-
--- bytes that fill a block are the block
-pub laid : (d x f : List ℕ) → length f ≡ length d → x ≡ sets d 0 f → x ≡ f
-laid d x f h e =
-    let z : 0 + length f ≡ length d = omega (arith, h) in
-    e ∙ (sets-eq f d 0 (omega (arith, h)) ∙ (ap (λ (k : ℕ). f ++ drop k d) z ∙ (ap (λ (r : List ℕ). f ++ r) (drop-length d) ∙ append-nil f)))
 
 -- one piece after another is both together
 spell-spell : (d : List ℕ) (at k : ℕ) (f g : List ℕ) → k ≡ at + length f → spell (spell d at f) k g ≡ spell d at (f ++ g)
