@@ -44,7 +44,7 @@ fn state_of(f: &[u8]) -> State
     }
 }
 
-// A line of kind 2, and its frame.
+// A line of kind 2, and its frame: rule 2 counts the characters of the one, the fields are read of the bytes of the other.
 fn judge_attempt(l: &[u8], f: &[u8]) -> Result<Frame, Rule>
     requires { (rule1 l.now ≡ true) × (kind_of (unhex l.now) ≡ 2) × (f.now ≡ unhex l.now) }
     ensures { read_of result ≡ judged l.now }
