@@ -12,7 +12,7 @@ use fitting::stage::{FORMED, stage_after};
 use group::{Answer, Refusal};
 use lines::Frame;
 use reader::read_whole;
-use record::layout::{Field, Record, own, put};
+use record::layout::{Field, Record, entered, own, put};
 use refusals::{decide_check, enter_check, form_check, write_attempt_check, write_state_check};
 use store::Pen;
 use telling::tell;
@@ -39,7 +39,7 @@ impl Session {
             return self.refused(Refusal::Record);
         };
         let fit = usable(&self, rec);
-        if let Err(why) = enter_check(fit, rec, view, heads) {
+        if let Err(why) = enter_check(fit, own(rec) as u8, entered(rec), view, heads) {
             return self.refused(why);
         }
         let me = own(rec);

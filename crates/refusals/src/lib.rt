@@ -3,25 +3,24 @@
 
 ghost use Rattle.std.specs.Prelude.{◌≡◌, ◌||◌, not, cond, eqb};
 ghost use Rattle.group.specs.Heads.{has};
-ghost use Rattle.record.specs.Layout.{own as own_of, entered as entered_of};
 ghost use Rattle.refusals.specs.Refusals.{check_number, enter_refused, state_refused, attempt_refused, decide_refused, form_refused, write_state_refused, write_attempt_refused};
 
 use fitting::stage::{CLOSED, FORMED, NONE, UNDECIDED};
 use group::Refusal;
 use group::heads::holds;
-use record::layout::{Record, entered, own};
 use writer::{ATTEMPT_ROOM, STATE_ROOM};
 
-pub fn enter_check(fit: bool, rec: &Record, view: u32, heads: u16) -> Result<(), Refusal>
-    ensures { check_number result ≡ enter_refused fit (own_of rec.now) (entered_of rec.now) view heads }
+// A view with these heads, for own head and the highest view entered.
+pub fn enter_check(fit: bool, own: u8, entered: u64, view: u32, heads: u16) -> Result<(), Refusal>
+    ensures { check_number result ≡ enter_refused fit own entered view heads }
 {
     if !fit {
         return Err(Refusal::Record);
     }
-    if !holds(heads, own(rec) as u8) {
+    if !holds(heads, own) {
         return Err(Refusal::Stranger);
     }
-    if u64::from(view) <= entered(rec) {
+    if u64::from(view) <= entered {
         return Err(Refusal::OldView);
     }
     Ok(())
