@@ -4,13 +4,13 @@ use mathlib.Core.Bool.{Bool, true, false, cond, ◌&&◌}
 use mathlib.Core.List.{List, [], ◌∷◌}
 use mathlib.Core.Logic.{⊎_elim, ◌⊎◌, inl, inr}
 use Prim.Native.Nat.{ℕ, zero, suc, ◌+◌, ◌-◌, ◌*◌, ◌/◌, ◌≤◌, ◌<◌}
-use native.Mathlib.Nat.{add-zero, not-suc-le-zero, eq-or-lt_of_le, lt_irrefl}
+use native.Mathlib.Nat.{not-suc-le-zero, eq-or-lt_of_le, lt_irrefl}
 use native.Mathlib.Numerals.{add-one}
 use native.Mathlib.Omega.{arith}
 use borrow.Author.Tests.{leb-true}
 use lib.ListN.{length, get_or, set, take, drop, length-drop}
-use lib.Seq.{take-suc, take-suc-set, drop-cons, take_all, get_or-set_same, get_or-set_other}
-use lib.Dec.{leb, eqb}
+use lib.Seq.{take-suc, take-suc-set, take_all, get_or-set_same, get_or-set_other}
+use lib.Dec.{leb}
 use Rattle.loops.specs.Below.{every}
 use Rattle.loops.proofs.Laws.Truth.{and_left, and_right, or_cases}
 use Rattle.loops.proofs.Laws.Tests.{every_append}
@@ -93,21 +93,6 @@ decoded-all s f i n a b e =
     ap (λ (k : ℕ). take k f) (sym b) ∙ e ∙ take_all i (unhex s) (omega (arith, length-unhex s))
 
 -- ---- the end of the line
-
--- as a loop takes it
-pub line-end-step : (s : List ℕ) (i : ℕ) → i < length s → line_end (drop i s) ≡ cond (eqb (get_or s i 0) 10) 0 (suc (line_end (drop (i + 1) s)))
-unfolding line_end
-line-end-step s i h = rw (add-one, drop-cons s i 0)
-
--- past n characters of which none is a newline
-pub line-end-past : (s : List ℕ) (i n : ℕ) → i + n ≤ length s → ((k : ℕ) → k < n → eqb (get_or s (i + k) 0) 10 ≡ false)
-    → line_end (drop i s) ≡ n + line_end (drop (i + n) s)
-line-end-past s i zero h e = omega (arith, ap (λ (m : ℕ). line_end (drop m s)) (add-zero i))
-line-end-past s i (suc n) h e =
-    let y = line-end-step s (i + n) (omega arith) in
-    let x = simp (e n (omega arith)) at y in
-    let q : i + suc n ≡ i + n + 1 = omega arith in
-    omega (arith, line-end-past s i n (omega arith) (λ k l. e k (omega arith)), x, ap (λ (m : ℕ). line_end (drop m s)) q)
 
 -- what a part of a slice to its end holds
 pub part-drop : (s : List ℕ) (a : ℕ) → take (length s - a) (drop a s) ≡ drop a s
