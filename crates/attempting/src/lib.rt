@@ -1,6 +1,7 @@
 // d. The attempt: the highest number and primary among the members, the sessions weighed, and the decision.
 #![tactic(auto)]
 
+ghost use Rattle.std.specs.List.{list_all};
 ghost use Rattle.std.specs.Prelude.{◌≡◌, ◌<◌, not, ◌||◌, cond, eqb, MatchOption, Ok};
 ghost use Rattle.loops.specs.Below.{all_below};
 ghost use Rattle.group.specs.Answers.{said};
@@ -15,7 +16,7 @@ use changes::Desk;
 use group::quorum::sub_quorum;
 use group::words::{has_head, heads_of, rank_of, session_of};
 use group::{Answer, Group};
-use members::{higher, members_end, of_member};
+use members::{higher, listed, members_end, of_member};
 use record::layout::{Record, core, least, number, own, places, primary};
 use state::{Held, State};
 
@@ -62,19 +63,10 @@ fn weighed(rec: &Record, m: u16, top: u64, w: u64) -> bool
     rank_of(w) <= rank_of(top) || passes_for(rec, m, w)
 }
 
-fn own_weighed(rec: &Record, m: u16, top: u64) -> bool
-    ensures { result ≡ own_weighed m rec.now top }
+fn each_weighed(rec: &Record, m: u16, top: u64, sessions: &[u64]) -> bool
+    ensures { result ≡ list_all (weighed_by m rec.now top) sessions.now }
 {
-    places(rec).iter().all(|w| weighed(rec, m, top, *w))
-}
-
-fn state_weighed(rec: &Record, m: u16, top: u64, st: &State) -> bool
-    ensures { result ≡ state_weighed m rec.now top st.now }
-{
-    st.places
-        .iter()
-        .take(st.count)
-        .all(|w| weighed(rec, m, top, *w))
+    sessions.iter().all(|w| weighed(rec, m, top, *w))
 }
 
 // The sessions that head q lists, of whom state st is held.
@@ -85,9 +77,9 @@ fn listed_weighed(rec: &Record, m: u16, top: u64, q: usize, st: &State) -> bool
     if !has_head(u64::from(m), q) {
         true
     } else if q == own(rec) {
-        own_weighed(rec, m, top)
+        each_weighed(rec, m, top, places(rec))
     } else {
-        state_weighed(rec, m, top, st)
+        each_weighed(rec, m, top, listed(st))
     }
 }
 

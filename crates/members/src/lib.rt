@@ -1,13 +1,14 @@
 // The members of the view: own head, and the others.
 #![tactic(auto)]
 
-ghost use Rattle.std.specs.Prelude.{◌≡◌, false, not, ◌&&◌, cond, ℕ, ◌≤◌, ◌<◌, eqb, ltb, get_or};
+ghost use Rattle.std.specs.Prelude.{◌≡◌, false, not, ◌&&◌, cond, ℕ, ◌≤◌, ◌<◌, eqb, ltb, get_or, take, length};
 ghost use Rattle.group.specs.Heads.{has};
 ghost use Rattle.group.specs.Words.{rank, highest_of};
 
 use group::Group;
 use group::heads::top_head;
 use group::words::{has_head, rank_of};
+use state::State;
 
 // Head q is a member other than own head.
 pub fn is_other(m: u16, own: usize, q: usize) -> bool
@@ -36,6 +37,14 @@ pub fn of_member(m: u16, own: usize, q: usize, mine: u64, theirs: u64) -> u64
     } else {
         theirs
     }
+}
+
+// The places of a state that count, of its sixteen: the first `count`.
+pub fn listed(st: &State) -> &[u64]
+    ensures counted { result.now ≡ take st.now.count st.now.places }
+    ensures of_sixteen { length st.now.places ≡ 16 }
+{
+    &st.places[..st.count.min(Group::PLACES)]
 }
 
 // The higher-numbered of two sessions, the first on a tie.

@@ -13,7 +13,7 @@ use changes::Desk;
 use group::Group;
 use group::heads::without_head;
 use group::words::{has_head, heads_of, lies_in, rank_of};
-use members::is_other;
+use members::{is_other, listed};
 use record::layout::{Record, marks_at, own, place_at};
 use state::{Held, State};
 
@@ -31,7 +31,7 @@ fn all_marked(rec: &Record, i: usize) -> bool
 fn lists(st: &State, w: u64) -> bool
     ensures { result ≡ lists_of st.now w }
 {
-    st.places.iter().take(st.count).any(|place| *place == w)
+    listed(st).contains(&w)
 }
 
 // Last primary p has a lower number than session w, or the same number and other heads.
