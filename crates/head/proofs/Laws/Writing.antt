@@ -5,8 +5,6 @@ use Prim.Native.Nat.{ℕ, ◌+◌, ◌*◌, ◌<◌}
 use native.Mathlib.Omega.{arith}
 use lib.Dec.{eqb}
 use lib.ListN.{length, drop}
-use Rattle.std.proofs.Common.{Option, Some, None, Ok, Err, IsSome}
-use Rattle.std.specs.Option.{ok_or, unwrap_or}
 use Rattle.loops.proofs.Laws.Truth.{cond-elim}
 use Rattle.group.specs.Answers.{written}
 use Rattle.record.specs.Layout.{own}
@@ -59,9 +57,6 @@ module _ (s : Session) (r out : List ℕ) (n : ℕ) (left : List ℕ) where
     attempt-made : chars n left ≡ chars 13 (attempt_line s.view (own r) ++ drop 13 out)
     attempt-made = e ∙ sym (attempt-written s.view (own r) out _ (may-write-attempt s r (length out) z).long refl)
 
-    pub attempt-length : 0 < n
-    attempt-length = omega (arith, same_chars attempt-made)
-
     pub write-attempt-done : write_attempt_spec s r out ≡ record { answer = written n; session = s; out = left }
     unfolding write_attempt_spec
     write-attempt-done =
@@ -80,12 +75,3 @@ state-hands-back s r out = hands-back _ s _ out
 pub attempt-hands-back : (s : Session) (r out : List ℕ) → (write_attempt_spec s r out).session ≡ s
 unfolding write_attempt_spec
 attempt-hands-back s r out = hands-back _ s _ out
-
--- the length that was answered
-pub told-length : {E : Type 0} (o : Option ℕ) (e : E) (n : ℕ) → ok_or o e ≡ Ok n → unwrap_or o 0 ≡ n
-told-length None e n h = let z : ⊥ = cc in absurd z
-told-length (Some k) e n h = cc
-
-pub told-none : {E : Type 0} (o : Option ℕ) (e f : E) → ok_or o e ≡ Err f → IsSome o → ⊥
-told-none None e f h s = cc
-told-none (Some k) e f h s = cc
