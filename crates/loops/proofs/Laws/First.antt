@@ -62,9 +62,3 @@ first-is n p i h t none =
     ⊎_elim (λ l. absurd (not-both (p (first_below n p)) (first_passes n p (omega arith)) (none (first_below n p) l)))
     (λ g. ⊎_elim (λ e. sym e) (λ l. absurd (not-both (p i) t (first-before n p i l))) (eq-or-lt_of_le g))
     (lt-or-ge (first_below n p) i)
-
-pub first-none : (n : ℕ) (p : ℕ → Bool) → ((j : ℕ) → j < n → p j ≡ false) → first_below n p ≡ n
-first-none n p none =
-    ⊎_elim (λ l. absurd (not-both (p (first_below n p)) (first_passes n p l) (none (first_below n p) l)))
-    (λ g. omega (arith, first-le n p))
-    (lt-or-ge (first_below n p) n)

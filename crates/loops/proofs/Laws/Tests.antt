@@ -7,7 +7,7 @@ use Prim.Native.Nat.{ℕ, zero, suc, ◌+◌, ◌≤◌, ◌<◌}
 use native.Mathlib.Nat.{le_refl, le_trans, not-suc-le-zero, le-suc}
 use native.Mathlib.Omega.{arith}
 use Rattle.loops.specs.Below.{fold_below, all_below, any_below, every}
-use Rattle.loops.proofs.Laws.Truth.{and_left, and_right, and_both, or_cases, or_left, or_right, fails-if, not-both, clash}
+use Rattle.loops.proofs.Laws.Truth.{and_left, and_right, and_both, or_cases, or_left, or_right, clash}
 use Rattle.loops.proofs.Laws.Order.{below_suc}
 use Rattle.loops.proofs.Laws.Fold.{fold-none, fold_next, fold-cong}
 
@@ -43,13 +43,6 @@ all_of (suc n) p f = and_both (all_below n p) (p n) (all_of n p (λ i h. f i (le
 pub all-again : (p : ℕ → Bool) {a b : Bool} (i : ℕ) → a ≡ all_below i p → b ≡ p i → (a && b) ≡ all_below (i + 1) p
 all-again p i e f = rw (all-next i p, e, f)
 
--- as a loop that stops at the first failure goes
-pub all_more : (n : ℕ) (p : ℕ → Bool) → all_below n p ≡ true → p n ≡ true → all_below (n + 1) p ≡ true
-all_more n p e f = all-next n p ∙ simp (e, f)
-
-pub all-stop : (n : ℕ) (p : ℕ → Bool) (i : ℕ) → i < n → p i ≡ false → all_below n p ≡ false
-all-stop n p i h e = fails-if (all_below n p) (λ t. not-both (p i) (all-at n p t i h) e)
-
 -- ---- any_below
 
 pub any_none : (p : ℕ → Bool) → any_below 0 p ≡ false
@@ -59,13 +52,6 @@ any_none p = fold-none (λ i found. found || p i) false
 pub any_next : (n : ℕ) (p : ℕ → Bool) → any_below (n + 1) p ≡ (any_below n p || p n)
 unfolding any_below
 any_next n p = fold_next n (λ i found. found || p i) false
-
--- the turn of a loop that looks for one
-pub any-again : (p : ℕ → Bool) {a b : Bool} (i : ℕ) → a ≡ any_below i p → b ≡ p i → (a || b) ≡ any_below (i + 1) p
-any-again p i e f = rw (any_next i p, e, f)
-
-pub any-end : (p : ℕ → Bool) (i n : ℕ) → i ≤ n → n ≤ i → any_below i p ≡ any_below n p
-any-end p i n h k = ap (λ (m : ℕ). any_below m p) (omega arith)
 
 pub any-find : (n : ℕ) (p : ℕ → Bool) → any_below n p ≡ true → (i : ℕ) × (i < n) × (p i ≡ true)
 unfolding any_below fold_below
@@ -81,10 +67,6 @@ any_of (suc n) p i h t =
     (λ e. or_right (any_below n p) (p n) (ap p (sym e) ∙ t))
     (λ l. or_left (any_below n p) (p n) (any_of n p i l t))
     (below_suc h)
-
--- a loop that stops at the first that passes has come to its end
-pub any-not : (n : ℕ) (p : ℕ → Bool) → ((i : ℕ) → i < n → p i ≡ false) → any_below n p ≡ false
-any-not n p f = fails-if _ (λ t. let r = any-find n p t in not-both _ r.2 (f r.0 r.1))
 
 -- ---- every
 
