@@ -13,7 +13,6 @@ ghost use Rattle.group.specs.Quorum.{is_group, quorum_test};
 
 use crate::heads::{holds, size};
 use crate::quorum::sub_quorum;
-use crate::words::usual_formed;
 pub use answers::{Answer, Refusal};
 
 // The core group W0 and the minimum Q.
@@ -60,13 +59,19 @@ impl Group {
     pub fn fresh(self, own: u8) -> [u64; Group::WORDS]
         ensures { result ≡ fresh_record self.core self.least own }
     {
-        let core = u64::from(self.core);
-        let primary = if holds(self.core, own) { core } else { 0 };
-        let formed: [u64; Group::HEADS] = std::array::from_fn(|q| usual_formed(primary, q));
-        let mut words = [0; Group::WORDS];
-        words[0] = core + u64::from(self.least) * 65536 + u64::from(own) * 16777216;
-        words[3] = primary;
-        words[4..20].copy_from_slice(&formed);
+        let core = self.core;
+        let least = self.least;
+        let mut words = [0u64; Group::WORDS];
+        words[0] = core as u64 + least as u64 * 65536 + own as u64 * 16777216;
+        if holds(core, own) {
+            words[3] = core as u64;
+            // By index: with the words of the heads made as an array, a start took twice as long.
+            for q in 0..Group::HEADS {
+                if holds(core, q as u8) {
+                    words[4 + q] = core as u64;
+                }
+            }
+        }
         words
     }
 }
