@@ -21,12 +21,11 @@ use Rattle.events.specs.declared.Event.TheVariants as event
 use Rattle.events.specs.declared.Delivery.{Delivery}
 use Rattle.events.proofs.Laws.{of-one-head, of-delivery}
 use Rattle.events.specs.Events.{named, byte_at, starts, of_kind, event_of}
-use Rattle.deeds.specs.declared.What.{What}
 use Rattle.deeds.specs.declared.What.TheVariants as what
 use Rattle.views.specs.Views.{enter_what, announced, members_of}
 use Rattle.views.proofs.Laws.{room_of}
 use Rattle.asking.specs.declared.World.{World}
-use Rattle.asking.specs.Asking.{to_of, from_of, event_in, in_group, what_of, left}
+use Rattle.asking.specs.Asking.{to_of, from_of, event_in, what_of, left}
 
 -- ---- an event names heads below 16
 
@@ -85,30 +84,26 @@ length-left s w h = length-take-le (w.stop - w.at) (drop w.at s) (omega (arith, 
 
 -- ---- a view is announced only where there is room
 
-abbrev IsNoAnnounce : What → Type 0
-IsNoAnnounce w = (a b : ℕ) → w ≡ what.Announce a b → ⊥
-
-in-group-not : (g : Bool) (w : What) → IsNoAnnounce w → IsNoAnnounce (in_group g w)
-in-group-not true w f = f
-in-group-not false w f = λ a b e. let z : ◌≡◌ {A = ℕ} 0 1 = cc in omega (arith, z)
-
 pub announce-room : (e : Option Event) (g : Bool) (views : List ℕ) (a b : ℕ) → what_of e g views ≡ what.Announce a b → length views < 1000
 unfolding enter_what
-announce-room None g views a b e = let z : ◌≡◌ {A = ℕ} 0 1 = cc in absurd (omega (arith, z))
-announce-room (Some (event.GroupIs core least)) g views a b e = absurd (go g e)
-  where
-    go : (t : Bool) → cond t (what.Refuse 14) (what.Open core least) ≡ what.Announce a b → ⊥
-    go true p = let z : ◌≡◌ {A = ℕ} 0 1 = cc in omega (arith, z)
-    go false p = let z : ◌≡◌ {A = ℕ} 0 1 = cc in omega (arith, z)
+announce-room None g views a b e = absurd cc
+announce-room (Some (event.GroupIs core least)) true views a b e = absurd cc
+announce-room (Some (event.GroupIs core least)) false views a b e = absurd cc
 announce-room (Some (event.ViewIs v m)) g views a b e = room_of g views v m a b e
 announce-room (Some (event.Enter h v)) g views a b e = absurd (go (g && announced v views) e)
   where
     go : (t : Bool) → cond t (what.Enter v (members_of v views)) (what.Refuse 14) ≡ what.Announce a b → ⊥
-    go true p = let z : ◌≡◌ {A = ℕ} 0 1 = cc in omega (arith, z)
-    go false p = let z : ◌≡◌ {A = ℕ} 0 1 = cc in omega (arith, z)
-announce-room (Some (event.GiveState d)) g views a b e = absurd (in-group-not g (what.HearState d.which) (λ a b p. let z : ◌≡◌ {A = ℕ} 0 1 = cc in omega (arith, z)) a b e)
-announce-room (Some (event.Decide h)) g views a b e = absurd (in-group-not g what.Decide (λ a b p. let z : ◌≡◌ {A = ℕ} 0 1 = cc in omega (arith, z)) a b e)
-announce-room (Some (event.GiveAttempt d)) g views a b e = absurd (in-group-not g (what.HearAttempt d.which) (λ a b p. let z : ◌≡◌ {A = ℕ} 0 1 = cc in omega (arith, z)) a b e)
-announce-room (Some (event.Form h)) g views a b e = absurd (in-group-not g what.Form (λ a b p. let z : ◌≡◌ {A = ℕ} 0 1 = cc in omega (arith, z)) a b e)
-announce-room (Some (event.Cut h k)) g views a b e = absurd (in-group-not g (what.Arm k) (λ a b p. let z : ◌≡◌ {A = ℕ} 0 1 = cc in omega (arith, z)) a b e)
-announce-room (Some (event.Recover h)) g views a b e = absurd (in-group-not g what.Recover (λ a b p. let z : ◌≡◌ {A = ℕ} 0 1 = cc in omega (arith, z)) a b e)
+    go true p = cc
+    go false p = cc
+announce-room (Some (event.GiveState d)) true views a b e = absurd cc
+announce-room (Some (event.GiveState d)) false views a b e = absurd cc
+announce-room (Some (event.Decide h)) true views a b e = absurd cc
+announce-room (Some (event.Decide h)) false views a b e = absurd cc
+announce-room (Some (event.GiveAttempt d)) true views a b e = absurd cc
+announce-room (Some (event.GiveAttempt d)) false views a b e = absurd cc
+announce-room (Some (event.Form h)) true views a b e = absurd cc
+announce-room (Some (event.Form h)) false views a b e = absurd cc
+announce-room (Some (event.Cut h k)) true views a b e = absurd cc
+announce-room (Some (event.Cut h k)) false views a b e = absurd cc
+announce-room (Some (event.Recover h)) true views a b e = absurd cc
+announce-room (Some (event.Recover h)) false views a b e = absurd cc
