@@ -33,7 +33,7 @@ fn learn(desk: &mut Desk, m: u16, held: &Held)
     clear_places(desk, m, held);
 }
 
-// Decide's stores and its answer, for the members m of the view and the states held of the others.
+// Decide's stores and its answer, for the members m of the view and the states held of the others. The two are not one struct: the marks ask m alone, and the definitions take them apart.
 pub fn decide_stores(rec: &mut Record, pen: Pen, m: u16, held: &Held) -> Decided
     ensures { Decides m held.now rec.old pen rec.new result }
 {
