@@ -1,8 +1,8 @@
 -- Before turn k the first at + k bytes of the frame are there: a byte is made of the values of its two digits.
-use mathlib.Core.Path.{◌≡◌, refl, sym, ap, ◌∙◌}
+use mathlib.Core.Path.{◌≡◌, sym, ap, ◌∙◌}
 use Prim.Native.Nat.{ℕ, ◌+◌, ◌*◌, ◌<◌}
 use native.Mathlib.Nat.{add-zero}
-use lib.ListN.{length-set, get_or, take}
+use lib.ListN.{get_or, take}
 use native.Mathlib.Omega.{arith}
 use Rattle.lines.specs.Hex.{unhex}
 use Rattle.lines.proofs.Laws.Hex.{nib-lt, decoded-pair}
@@ -11,7 +11,7 @@ use Rattle.hexadecimal.proofs.put_block.Goals as goal
 pub loop-k-init : goal.loop-k-init
 loop-k-init c =
     let z = add-zero c.args.at in
-    (omega arith, refl, ap (λ (m : ℕ). take m c.args.a.now) z ∙ c.requires.2 ∙ sym (ap (λ (m : ℕ). take m (unhex c.args.s.now)) z))
+    ap (λ (m : ℕ). take m c.args.a.now) z ∙ c.requires.2 ∙ sym (ap (λ (m : ℕ). take m (unhex c.args.s.now)) z)
 
 pub overflow_mul-a-in-loop-k : goal.overflow_mul-a-in-loop-k
 overflow_mul-a-in-loop-k c =
@@ -31,13 +31,10 @@ overflow_add-a-in-loop-k c =
 pub loop-k-preserved : goal.loop-k-preserved
 loop-k-preserved c =
     let v = c.values_at-n in
-    (omega arith, simp length-set c.loop-k.invariant.1, decoded-pair c.args.s.now c.loop-k.a v.result c.args.at c.loop-k.k (omega arith) (omega arith) (omega arith) v.ensures c.loop-k.invariant.2)
-
-pub shape_of-a : goal.shape_of-a
-shape_of-a c = c.loop-k.invariant.1
+    decoded-pair c.args.s.now c.loop-k.a v.result c.args.at c.loop-k.k (omega arith) (omega arith) (omega arith) v.ensures c.loop-k.invariant
 
 pub returns : goal.returns
 returns c =
     let a = c.args in
     let e : c.loop-k.k ≡ 16 = omega arith in
-    sym (ap (λ (m : ℕ). take (a.at + m) c.loop-k.a) e) ∙ c.loop-k.invariant.2 ∙ ap (λ (m : ℕ). take (a.at + m) (unhex a.s.now)) e
+    sym (ap (λ (m : ℕ). take (a.at + m) c.loop-k.a) e) ∙ c.loop-k.invariant ∙ ap (λ (m : ℕ). take (a.at + m) (unhex a.s.now)) e
