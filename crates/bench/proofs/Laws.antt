@@ -24,20 +24,20 @@ pub record Calm (z : World) : Type 0 where
 left-all : (bs : List ℕ) (r : World) → r.at ≡ 0 → left bs r ≡ take r.stop bs
 left-all bs r e = let f : r.stop - 0 ≡ r.stop = omega arith in rw (e, f)
 
-pub holds-now : (bs bs' : List ℕ) (z : World) (d : Desk) → Calm z → length bs' ≡ 8192 → Filled bs bs' z d.world → Holds bs' d
-holds-now bs bs' z d c l f =
+pub holds-now : (bs bs' out : List ℕ) (z : World) (d : Desk) → Calm z → length bs' ≡ 8192 → length out ≡ 196608 → Filled bs bs' z d.world → Holds bs' out d
+holds-now bs bs' out z d c l m f =
     let h : Lines bs' z d.world = filled-lines bs bs' z d.world f in
     record {
       views-in = omega (arith, c.views-in, h.views);
       formed-in = omega (arith, c.formed-in, h.formed);
       within = omega (arith, h.stop, h.end, l);
       ends = ap (begun []) (left-all bs' d.world h.at) ∙ h.ends;
-      room = omega (arith, h.put, h.at, h.stop, h.end);
+      room = omega (arith, h.put, h.at, h.stop, h.end, m);
     }
 
 -- after the lines of a read are played and what they print is written
-pub calm-after : (bs bs₀ bs₁ : List ℕ) (z r : World) (d : Desk) (x : World) → Filled bs₀ bs₁ z r → SamePart r d.world → Holds bs d → Later d.world x → Calm x
-calm-after bs bs₀ bs₁ z r d x f p q l =
+pub calm-after : (bs bs₀ bs₁ out : List ℕ) (z r : World) (d : Desk) (x : World) → Filled bs₀ bs₁ z r → SamePart r d.world → Holds bs out d → Later d.world x → Calm x
+calm-after bs bs₀ bs₁ out z r d x f p q l =
     let h : Lines bs₁ z r = filled-lines bs₀ bs₁ z r f in
     let k : Kept d.world x = later-kept d.world x l in
     record {

@@ -1,20 +1,20 @@
 // Reads events on standard input and prints an answer for each, then the formed sessions. The work on bytes is in `reading`, `table` and `noting`.
 #![tactic(auto)]
 
-ghost use Rattle.std.specs.Prelude.{◌≡◌, ◌≤◌};
+ghost use Rattle.std.specs.Prelude.{◌≡◌, ◌≤◌, length};
 
 use noting::close;
 use reading::{filled, first_world, sent};
 use std::io::{Read, Write};
-use table::{Desk, OUTPUT, SESSIONS, VIEWS, new_table};
+use table::{Desk, SESSIONS, VIEWS, new_table};
 
 // Writes what is printed at the end of the input, and answers how many reads were left to make.
-fn finished<W: Write>(writer: &mut W, desk: &mut Desk) -> u64
-    requires { desk.old.world.formed ≤ 1001 }
-    ensures { result ≡ desk.old.world.turns }
+fn finished<W: Write>(writer: &mut W, desk: &Desk, out: &mut [u8]) -> u64
+    requires { (desk.now.world.formed ≤ 1001) × (196608 ≤ length out.old) }
+    ensures { result ≡ desk.now.world.turns }
 {
-    let put = close(&desk.formed, &mut desk.out, desk.world);
-    let _ = writer.write_all(&desk.out[..put]);
+    let put = close(&desk.formed, out, desk.world);
+    let _ = writer.write_all(&out[..put]);
     desk.world.turns
 }
 
@@ -26,16 +26,16 @@ fn run<R: Read, W: Write>(reader: &mut R, writer: &mut W) -> u64
         table: new_table(),
         views: [0; VIEWS],
         formed: [0; SESSIONS],
-        out: [0; OUTPUT],
         world: first_world(),
     };
     let mut buf = [0; 8192];
+    let mut out = [0; 196608];
     while 0 < desk.world.turns {
         desk.world = filled(reader, &mut buf, desk.world);
-        desk.feed(&buf);
-        desk.world = sent(writer, &desk.out, desk.world);
+        desk.feed(&buf, &mut out);
+        desk.world = sent(writer, &out, desk.world);
     }
-    finished(writer, &mut desk)
+    finished(writer, &desk, &mut out)
 }
 
 fn main(rt: HostRuntime) {

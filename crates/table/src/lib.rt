@@ -1,4 +1,4 @@
-// The sixteen heads of the bench stand in one table, which is lent. Each function over the table is thin; what a head does is a function by value.
+// The bench: its sixteen heads in one table, which is lent, and what is held from read to read. Each function over the table is thin; what a head does is a function by value.
 #![tactic(auto)]
 
 ghost use Rattle.std.specs.Prelude.{◌≡◌, ◌<◌, length, replicate};
@@ -14,12 +14,10 @@ use group::Group;
 use noting::told;
 use seat::{Seat, empty_seat, played, starts};
 
-// The most views and formed sessions, and room for what the lines of a read print.
+// The most views and formed sessions.
 pub const VIEWS: usize = 1000;
 
 pub const SESSIONS: usize = 1001;
-
-pub const OUTPUT: usize = 196608;
 
 // Sixteen heads before their group line.
 pub fn new_table() -> [Seat; Group::HEADS]
@@ -62,29 +60,28 @@ pub struct Desk {
     pub table: [Seat; Group::HEADS],
     pub views: [u64; VIEWS],
     pub formed: [u64; SESSIONS],
-    pub out: [u8; OUTPUT],
     pub world: World,
 }
 
 impl Desk {
-    // One turn of the bench: what the next line asks, what the head does, what is kept and printed of it.
-    pub fn turn(&mut self, s: &[u8])
-        requires { (self.old.world.at < self.old.world.stop) × Holds s.now self.old }
-        ensures { Holds s.now self.new × Turned s.now self.old.world (stands_for self.old) (stands_for self.new) self.new.world }
+    // One turn of the bench: what the next line asks, what the head does, what is kept and printed of it. The output is of any length that has room.
+    pub fn turn(&mut self, s: &[u8], out: &mut [u8])
+        requires { (self.old.world.at < self.old.world.stop) × Holds s.now out.old self.old }
+        ensures { Holds s.now out.new self.new × Turned s.now self.old.world (stands_for out.old self.old) (stands_for out.new self.new) self.new.world }
     {
         let o = asked(&mut self.views, s, self.world);
         let d = act(&mut self.table, o);
         open(&mut self.table, o.what);
-        self.world = told(&mut self.formed, &mut self.out, self.world, o, d);
+        self.world = told(&mut self.formed, out, self.world, o, d);
     }
 
     // All whole lines of a part of the input, in order.
-    pub fn feed(&mut self, s: &[u8])
-        requires { Holds s.now self.old }
-        ensures { Holds s.now self.new × Fed s.now self.old.world (stands_for self.old) (stands_for self.new) self.new.world }
+    pub fn feed(&mut self, s: &[u8], out: &mut [u8])
+        requires { Holds s.now out.old self.old }
+        ensures { Holds s.now out.new self.new × Fed s.now self.old.world (stands_for out.old self.old) (stands_for out.new self.new) self.new.world }
     {
         while self.world.at < self.world.stop {
-            self.turn(s);
+            self.turn(s, out);
         }
     }
 }

@@ -7,10 +7,11 @@ pub feed-requires : goal.feed-requires
 feed-requires g c =
     let l = c.loop-desk in
     let long : length c.filled-desk.new.buf ≡ 8192 = search rules in
-    holds-now l.buf c.filled-desk.new.buf l.desk.world _ l.invariant long c.filled-desk.ensures
+    let room : length l.out ≡ 196608 = search rules in
+    holds-now l.buf c.filled-desk.new.buf l.out l.desk.world _ l.invariant long room c.filled-desk.ensures
 
 pub loop-desk-preserved : goal.loop-desk-preserved
 loop-desk-preserved g c =
     let l = c.loop-desk in
     let buf = c.filled-desk.new.buf in
-    calm-after buf l.buf buf l.desk.world c.filled-desk.result c.feed.new.self c.sent-desk.result c.filled-desk.ensures c.feed.ensures.1.part c.feed.ensures.0 c.sent-desk.ensures
+    calm-after buf l.buf buf c.feed.new.out l.desk.world c.filled-desk.result c.feed.new.self c.sent-desk.result c.filled-desk.ensures c.feed.ensures.1.part c.feed.ensures.0 c.sent-desk.ensures

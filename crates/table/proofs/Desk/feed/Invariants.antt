@@ -9,8 +9,8 @@ use Rattle.table.proofs.Desk.feed.Given as goal
 
 abbrev pub invariant-loop-self : goal.invariant-loop-self
 invariant-loop-self l = record {
-  holds : Holds l.s l.self;
-  rest : played (whole_lines [] (left l.s l.self.world)) (stands_for l.self) ≡ played (whole_lines [] (left l.s l.initial.self.world)) (stands_for l.initial.self);
+  holds : Holds l.s l.out l.self;
+  rest : played (whole_lines [] (left l.s l.self.world)) (stands_for l.out l.self) ≡ played (whole_lines [] (left l.s l.initial.self.world)) (stands_for l.initial.out l.initial.self);
   part : SamePart l.initial.self.world l.self.world;
 }
 

@@ -13,19 +13,19 @@ pub act-d-requires : goal.act-d-requires
 act-d-requires c =
     let d = c.args.self.now in
     let heads : length d.table ≡ 16 = search rules in
-    let h = order-heads c.args.s.now d.table d.views d.formed d.out d.world in
+    let h = order-heads c.args.s.now d.table d.views d.formed c.args.out.now d.world in
     rw c.asked-o.ensures.0 (omega (arith, h.0, heads), omega (arith, h.1, heads))
 
 pub returns : goal.returns
 returns c =
     let s = c.args.s.now in
     let d = c.args.self.now in
+    let out = c.args.out.now in
     let heads : length d.table ≡ 16 = search rules in
     let views-room : length d.views ≡ 1000 = search rules in
     let formed-room : length d.formed ≡ 1001 = search rules in
-    let out-room : length d.out ≡ 196608 = search rules in
     let h = c.requires.1 in
-    let ready : Ready d.table d.views d.formed s d.out d.world = record {
+    let ready : Ready d.table d.views d.formed s out d.world = record {
       heads = heads;
       views-room = views-room;
       views-in = h.views-in;
@@ -33,12 +33,12 @@ returns c =
       formed-in = h.formed-in;
       within = h.within;
       ends = h.ends;
-      room = omega (arith, h.room, out-room);
+      room = h.room;
     } in
     let e = c.asked-o.ensures in
     let acted = subst (λ (o : Order). Acted d.table c.act-d.new.table o c.act-d.result) e.0 c.act-d.ensures in
-    let noted = subst (λ (o : Order). Noted d.world o c.act-d.result d.formed d.out c.told-self.new.formed c.told-self.new.out c.told-self.result) e.0 c.told-self.ensures in
-    let t = turned s d.table d.views d.formed d.out d.world ready c.requires.0 (record {
+    let noted = subst (λ (o : Order). Noted d.world o c.act-d.result d.formed out c.told-self.new.formed c.told-self.new.out c.told-self.result) e.0 c.told-self.ensures in
+    let t = turned s d.table d.views d.formed out d.world ready c.requires.0 (record {
       table = c.open.ensures ∙ ap (λ (o : Order). all_started o.what c.act-d.new.table) e.0 ∙ ap (all_started _) acted.table;
       reply = acted.reply;
       session = acted.session;
@@ -47,6 +47,6 @@ returns c =
       formed-long = c.told-self.auto.formed;
       out-long = c.told-self.auto.out;
     }) in (
-      record { views-in = t.0.views-in; formed-in = t.0.formed-in; within = t.0.within; ends = t.0.ends; room = omega (arith, t.0.room, c.told-self.auto.out, out-room) },
+      record { views-in = t.0.views-in; formed-in = t.0.formed-in; within = t.0.within; ends = t.0.ends; room = t.0.room },
       t.1,
     )
