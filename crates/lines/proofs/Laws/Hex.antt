@@ -4,12 +4,12 @@ use mathlib.Core.Bool.{Bool, true, false, cond, ◌&&◌}
 use mathlib.Core.List.{List, [], ◌∷◌}
 use mathlib.Core.Logic.{⊎_elim, ◌⊎◌, inl, inr}
 use Prim.Native.Nat.{ℕ, zero, suc, ◌+◌, ◌-◌, ◌*◌, ◌/◌, ◌≤◌, ◌<◌}
-use native.Mathlib.Nat.{not-suc-le-zero, eq-or-lt_of_le, lt_irrefl}
+use native.Mathlib.Nat.{not-suc-le-zero}
 use native.Mathlib.Numerals.{add-one}
 use native.Mathlib.Omega.{arith}
 use borrow.Author.Tests.{leb-true}
 use lib.ListN.{length, get_or, set, take, drop, length-drop}
-use lib.Seq.{take-suc, take-suc-set, take_all, get_or-set_same, get_or-set_other}
+use lib.Seq.{take-suc, take-suc-set, take_all}
 use lib.Dec.{leb}
 use Rattle.loops.specs.Below.{every}
 use Rattle.loops.proofs.Laws.Truth.{and_left, and_right, or_cases}
@@ -36,15 +36,6 @@ unfolding every
 every_take p s i h =
     rw (add-one, take-suc s i 0)
     (every_append p (take i s) (get_or s i 0 ∷ []) ∙ ap (λ (b : Bool). every p (take i s) && b) (mathlib.Core.Bool.and-true (p (get_or s i 0))))
-
--- a list that is filled with the values of f, one after the other
-pub filled_more : (f : ℕ → ℕ) (t : List ℕ) (i v : ℕ) → i < length t → v ≡ f i → ((k : ℕ) → k < i → get_or t k 0 ≡ f k)
-    → (k : ℕ) → k < i + 1 → get_or (set t i v) k 0 ≡ f k
-filled_more f t i v l e h k b =
-    ⊎_elim
-    (λ q. rw q (get_or-set_same t i v 0 l ∙ e))
-    (λ c. get_or-set_other t i k v 0 (λ q. lt_irrefl 0 (omega arith)) ∙ h k c)
-    (eq-or-lt_of_le (omega arith))
 
 -- ---- a byte of two characters
 
