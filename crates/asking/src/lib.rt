@@ -11,7 +11,7 @@ use events::{Event, read_event};
 use hexadecimal::line_end;
 use views::{enter_what, list_view, view_what};
 
-// Where the bench stands. The lent lists have more room than is used: views and formed are the counts. at is where the next line begins, stop the end of the last
+// Where the bench stands. The lent lists have more room than is used, since memory is fixed: views and formed are the counts. at is where the next line begins, stop the end of the last
 // whole line of the part that was read, put the end of what is printed of that part.
 #[derive(Clone, Copy)]
 pub struct World {

@@ -29,7 +29,7 @@ pub enum Reply {
     Head(Result<Answer, Refusal>),
 }
 
-// What a head did: what is printed, and the session that it formed, 0 for none.
+// What a head did: what is printed, and the session that it formed, 0 for none as in a record's word: the definitions `newly` and `noted` have it so.
 #[derive(Clone, Copy)]
 pub struct Deed {
     pub reply: Reply,
