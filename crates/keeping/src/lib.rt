@@ -8,7 +8,7 @@ ghost use Rattle.keeping.specs.Keeping.{no_line, stores_for, chars, pushed, is_l
 use group::{Answer, Refusal};
 
 // The most characters of a line.
-const ROOM: usize = 419;
+pub const ROOM: usize = 419;
 
 // A line that was sent, of no characters where no line is kept. It is a buffer with its length beside, since memory is fixed.
 #[derive(Clone, Copy)]

@@ -8,6 +8,7 @@ ghost use Rattle.deeds.specs.Told.{told};
 ghost use Rattle.printing.specs.Texts.{refused_text, said_text, told_text, session_line, closing, last_text};
 
 use deeds::Reply;
+use group::words::number_of;
 use group::{Answer, Refusal};
 use shown::{put_field, put_heads};
 use text::Printer;
@@ -18,9 +19,9 @@ fn put_refused(printer: &mut Printer, n: u8)
     requires { Room 24 printer.old }
     ensures { Puts 24 (refused_text n) printer.old printer.new }
 {
-    printer.put(82);
-    put_field(printer, n as u64);
-    printer.put(10);
+    printer.put(b'R');
+    put_field(printer, u64::from(n));
+    printer.put(b'\n');
 }
 
 // The word of an answer, with its newline.
@@ -71,11 +72,11 @@ fn put_session(printer: &mut Printer, before: u64, w: u64)
     requires { Room 33 printer.old }
     ensures { Puts 33 (session_line before w) printer.old printer.new }
 {
-    printer.put(70);
+    printer.put(b'F');
     put_heads(printer, w);
-    put_field(printer, w / 65536);
+    put_field(printer, number_of(w));
     put_heads(printer, (w % 65536) & (before % 65536));
-    printer.put(10);
+    printer.put(b'\n');
 }
 
 // A line for each formed session.

@@ -12,7 +12,7 @@ use deeds::{Deed, Reply, What};
 use formed::newly;
 use group::{Answer, Group, Refusal};
 use head::session::Session;
-use keeping::{Kept, chars_of, is_line, kept_at, no_line, push, stores_of};
+use keeping::{Kept, ROOM, chars_of, is_line, kept_at, no_line, push, stores_of};
 use mending::recover;
 use record::layout::{Record, primary};
 use start::start;
@@ -64,7 +64,7 @@ fn wrote(kind: Line, s: Session, words: &Record, out: &mut [u8]) -> head::sessio
 fn line_sent(kind: Line, s: Session, words: &Record) -> Kept
     ensures { result ≡ line_sent kind s words.now }
 {
-    let mut bytes = [0u8; 419];
+    let mut bytes = [0u8; ROOM];
     let next = wrote(kind, s, words, &mut bytes);
     Kept {
         len: chars_of(next.answer),

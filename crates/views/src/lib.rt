@@ -7,6 +7,7 @@ ghost use Rattle.group.specs.Words.{num};
 ghost use Rattle.views.specs.Views.{view_what, enter_what, listed};
 
 use deeds::What;
+use group::words::{heads_of, number_of, session_of};
 
 // The most views.
 const VIEWS: usize = 1000;
@@ -18,7 +19,10 @@ const REFUSED: What = What::Refuse { number: 14 };
 fn find_view(views: &[u64], v: u32) -> Option<u64>
     ensures { result ≡ find (λ view. eqb (num view) v) views.now }
 {
-    views.iter().copied().find(|view| *view / 65536 == v as u64)
+    views
+        .iter()
+        .copied()
+        .find(|view| number_of(*view) == u64::from(v))
 }
 
 #[tactic(auto, using(crate::proofs::Laws::known_refused, crate::proofs::Laws::unknown), unfolding(crate::specs::Views::view_what))]
@@ -38,7 +42,7 @@ pub fn enter_what(grouped: bool, views: &[u64], v: u32) -> What
     match find_view(views, v) {
         Some(view) if grouped => What::Enter {
             view: v,
-            heads: (view % 65536) as u16,
+            heads: heads_of(view),
         },
         _ => REFUSED,
     }
@@ -51,7 +55,7 @@ pub fn list_view(views: &mut [u64], n: usize, what: What)
 {
     if let What::Announce { number, heads } = what {
         if n < views.len() {
-            views[n] = number as u64 * 65536 + heads as u64;
+            views[n] = session_of(u64::from(number), heads);
         }
     }
 }
