@@ -1,4 +1,4 @@
-// The small number of each answer.
+// The small number of each answer, for C to read.
 #![tactic(auto)]
 
 ghost use Rattle.std.specs.Prelude.{◌≡◌};

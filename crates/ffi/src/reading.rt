@@ -1,4 +1,4 @@
-// Read a line, for C and Rust to link.
+// Read a line, for C and Rust to link. Kind and rule are numbers, since C reads them.
 ghost use Rattle.std.specs.Prelude.{◌≡◌};
 ghost use Rattle.lines.specs.Reading.{read_of};
 ghost use Rattle.ffi.specs.LineRead.{as_numbers, line_read};

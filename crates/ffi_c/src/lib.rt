@@ -1,4 +1,4 @@
-// The exports of `ffi` as a static library: each hands its arguments to the function of its name there.
+// The exports of `ffi` as a static library: each hands its arguments to the function of its name there. The C interface has twelve names, and a crate is a library or a static one.
 #![tactic(auto)]
 
 ghost use Rattle.std.specs.Prelude.{◌≡◌, cond};

@@ -8,5 +8,4 @@ pub mod Last
 pub mod First
 pub mod Lists
 pub mod Stores
-pub mod Copies
 pub mod Chains

@@ -1,4 +1,4 @@
-// Which word of the record holds what: its fields, their stores under a pen, and their writes in a copy. No other file knows it.
+// Which word of the record holds what: its fields, their stores under a pen, and their writes in a copy. No crate above knows it; `Group::fresh`, below, writes the words by number.
 #![tactic(auto, using(crate::proofs::Laws::Words::slices, crate::proofs::Laws::Words::fields), unfolding(crate::specs::Layout::settings, crate::specs::Layout::core, crate::specs::Layout::least, crate::specs::Layout::own, crate::specs::Layout::entered, crate::specs::Layout::number, crate::specs::Layout::primary, crate::specs::Layout::formed_for, crate::specs::Layout::place_at, crate::specs::Layout::marks_at, crate::specs::Layout::formed, crate::specs::Layout::places, crate::specs::Layout::store_entered, crate::specs::Layout::store_number, crate::specs::Layout::store_primary, crate::specs::Layout::store_formed, crate::specs::Layout::store_place, crate::specs::Layout::store_marks, store::specs::Desk::stored))]
 
 ghost use Rattle.std.specs.Prelude.{◌≡◌, ◌+◌, ◌<◌, ◌≤◌};
@@ -25,7 +25,7 @@ pub enum Field {
 }
 
 impl Field {
-    // Which word holds it: no other function knows, but that word 0 is the settings.
+    // Which word holds it. Word 0, the settings, is read and never stored alone.
     fn at(self) -> usize
         requires { InRecord self }
         ensures { result ≡ field_at self }

@@ -2,7 +2,7 @@
 -- `q i` is what is asked or made of the element at index i, so that one law serves a list, a list of indexes and a list with its indexes.
 use mathlib.Core.Path.{◌≡◌, refl, sym, ap, ◌∙◌, subst}
 use mathlib.Core.Bool.{Bool, true, false, ◌&&◌, ◌||◌}
-use mathlib.Core.List.{List, [], ◌∷◌, map}
+use mathlib.Core.List.{List, [], ◌∷◌}
 use mathlib.Core.Logic.{⊎_elim}
 use Prim.Native.Nat.{ℕ, zero, suc, ◌+◌, ◌≤◌, ◌<◌, zero-le}
 use native.Mathlib.Nat.{le_refl, le_trans, le-suc, lt_irrefl, eq-or-lt_of_le}
@@ -18,7 +18,7 @@ use Rattle.std.specs.Array.{IsFromFnResult, IsFromFnResultFrom}
 use Rattle.std.proofs.lemmas.List.{take_more, length-take, get_or-take}
 use Rattle.std.proofs.lemmas.List.Folds.{list_all_more, list_any_more}
 use Rattle.std.proofs.lemmas.List.Sums.{fold-append, count_by_more_yes, count_by_more_no, position_or_len_is}
-use Rattle.std.proofs.lemmas.List.FromFn.{length-range_with_len, get_or-range_with_len, length-enumerate_from, get_or-enumerate_from, length-map-range_with_len, get_or-map-range_with_len}
+use Rattle.std.proofs.lemmas.List.FromFn.{length-range_with_len, get_or-range_with_len, length-enumerate_from, get_or-enumerate_from}
 use Rattle.loops.specs.Below.{fold_below, all_below, any_below, count_below, first_below, table, bit}
 use Rattle.loops.proofs.Laws.Truth.{passes-or-fails, test-ext, not-both, or_left}
 use Rattle.loops.proofs.Laws.Order.{lt-or-ge}
@@ -141,14 +141,6 @@ pair-at xs i d h = get_or-enumerate_from 0 xs i (0, d) h ∙ ap (λ (k : ℕ). (
 pub all-range : (p q : ℕ → Bool) (n : ℕ) → ((i : ℕ) → i < n → p i ≡ q i) → list_all p (range_with_len 0 n) ≡ all_below n q
 all-range p q n e = all-chain p q (range_with_len 0 n) 0 n (length-range_with_len 0 n) (λ i h. ap p (index-at n i h) ∙ e i h)
 
-pub any-range : (p q : ℕ → Bool) (n : ℕ) → ((i : ℕ) → i < n → p i ≡ q i) → list_any p (range_with_len 0 n) ≡ any_below n q
-any-range p q n e = any-chain p q (range_with_len 0 n) 0 n (length-range_with_len 0 n) (λ i h. ap p (index-at n i h) ∙ e i h)
-
-pub fold-range : {B : Type 0} (f : B → ℕ → B) (step : ℕ → B → B) (b : B) (n : ℕ)
-    → ((i : ℕ) (s : B) → i < n → f s i ≡ step i s) → fold f b (range_with_len 0 n) ≡ fold_below n step b
-fold-range f step b n e =
-    fold-chain f step b (range_with_len 0 n) 0 n (length-range_with_len 0 n) (λ i s h. ap (f s) (index-at n i h) ∙ e i s h)
-
 pub all-enumerate : {A : Type 0} (p : ℕ × A → Bool) (q : ℕ → Bool) (xs : List A) (d : A) (n : ℕ)
     → length xs ≡ n → ((i : ℕ) → i < n → p (i, get_or xs i d) ≡ q i) → list_all p (enumerate_from 0 xs) ≡ all_below n q
 all-enumerate p q xs d n h e =
@@ -166,9 +158,6 @@ fold-enumerate f step b xs d n h e =
     (λ i s k. ap (f s) (pair-at xs i d (omega arith)) ∙ e i s k)
 
 -- ---- a list that a chain makes
-
-pub map-range-table : {A : Type 0} (f : ℕ → A) (d : A) (n : ℕ) → map f (range_with_len 0 n) ≡ table n f
-map-range-table f d n = table_is n f d _ (length-map-range_with_len f 0 n) (λ i h. get_or-map-range_with_len f 0 n i i d h (omega arith))
 
 -- an array made by a call at each index, where every call leaves the closure as it was
 

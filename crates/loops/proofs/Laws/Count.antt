@@ -8,16 +8,13 @@ use native.Mathlib.Omega.{arith}
 use Rattle.loops.specs.Below.{fold_below, bit, count_below}
 use Rattle.loops.proofs.Laws.Truth.{clash}
 use Rattle.loops.proofs.Laws.Order.{below_suc}
-use Rattle.loops.proofs.Laws.Fold.{fold_next, fold-cong}
+use Rattle.loops.proofs.Laws.Fold.{fold-cong}
 
 pub count-suc : (n : ℕ) (p : ℕ → Bool) → count_below (suc n) p ≡ count_below n p + bit (p n)
 unfolding count_below fold_below
 count-suc n p = refl
 
 -- the same as a loop takes it
-pub count_next : (n : ℕ) (p : ℕ → Bool) → count_below (n + 1) p ≡ count_below n p + bit (p n)
-unfolding count_below
-count_next n p = fold_next n (λ i c. c + bit (p i)) 0
 
 pub count-cong : (n : ℕ) (p q : ℕ → Bool) → ((i : ℕ) → i < n → p i ≡ q i) → count_below n p ≡ count_below n q
 unfolding count_below fold_below
