@@ -36,7 +36,7 @@ impl From<Next> for HeadEnd {
     }
 }
 
-// What a call that writes hands back: the session that it was given, which was only lent to it.
+// What a call that writes hands back: the session that it was given, which is taken from there. From what the call hands back, it would be copied once more.
 fn written(answer: Result<Answer, Refusal>, session: Session) -> HeadLine
     ensures { (result.code ≡ code_of (said answer)) × (result.length ≡ length_of (said answer)) × (result.session ≡ session) }
 {
@@ -92,12 +92,12 @@ pub extern "C" fn head_form(words: &mut [u64], session: Session, stores: u64) ->
 pub extern "C" fn head_write_state(words: &[u64], session: Session, out: &mut [u8]) -> HeadLine
     ensures { lined out.new result ≡ lined_of (write_state_spec session words.now out.old) }
 {
-    written(session.state_written(words, out), session)
+    written(session.write_state(words, out).answer, session)
 }
 
 #[unsafe(no_mangle)]
 pub extern "C" fn head_write_attempt(words: &[u64], session: Session, out: &mut [u8]) -> HeadLine
     ensures { lined out.new result ≡ lined_of (write_attempt_spec session words.now out.old) }
 {
-    written(session.attempt_written(words, out), session)
+    written(session.write_attempt(words, out).answer, session)
 }

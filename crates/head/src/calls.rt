@@ -153,9 +153,9 @@ impl Session {
         }
     }
 
-    // Writes the state line, or says why not. The session is lent: a caller that has it needs no copy back.
+    // Writes the state line, or says why not.
     #[tactic(auto, using(crate::proofs::Laws::Calls::some_number, crate::proofs::Laws::Fits::usable_length), unfolding(crate::specs::Calls::write_state_spec, crate::specs::Refusals::write_state_refusal, crate::specs::Calls::writes))]
-    pub fn state_written(&self, rec: &[u64], out: &mut [u8]) -> Result<Answer, Refusal>
+    fn state_written(&self, rec: &[u64], out: &mut [u8]) -> Result<Answer, Refusal>
         ensures { wrote out.new record { answer = result; session = self.now } ≡ write_state_spec self.now rec.now out.old }
     {
         let rec: &Record = rec.as_array().ok_or(Refusal::Record)?;
@@ -175,7 +175,7 @@ impl Session {
 
     // Writes the attempt line, or says why not.
     #[tactic(auto, using(crate::proofs::Laws::Calls::some_number, crate::proofs::Laws::Fits::usable_length), unfolding(crate::specs::Calls::write_attempt_spec, crate::specs::Refusals::write_attempt_refusal, crate::specs::Calls::writes))]
-    pub fn attempt_written(&self, rec: &[u64], out: &mut [u8]) -> Result<Answer, Refusal>
+    fn attempt_written(&self, rec: &[u64], out: &mut [u8]) -> Result<Answer, Refusal>
         ensures { wrote out.new record { answer = result; session = self.now } ≡ write_attempt_spec self.now rec.now out.old }
     {
         let rec: &Record = rec.as_array().ok_or(Refusal::Record)?;
