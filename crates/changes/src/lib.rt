@@ -45,7 +45,7 @@ impl Desk<'_> {
         self.pen = change(self.rec, self.pen, field, w);
     }
 
-    // Last formed of each head of session w.
+    // Last formed of each head of session w. By number: each turn stores the field of that number, and there is no slice to go over.
     fn put_last_formed(&mut self, w: u64)
         ensures { Leaves (run (formed_stores w) (on self.old)) self.old self.new }
     {

@@ -96,6 +96,7 @@ fn read_view(l: &[u8]) -> Option<Event>
     Some(Event::ViewIs { number, heads })
 }
 
+// Enter and cut have their head in common, which `head_at` reads; the rest differs in size and in what it makes.
 fn read_enter(l: &[u8]) -> Option<Event>
     ensures { result ≡ enter_event (length l.now) (unhex l.now) }
 {

@@ -32,7 +32,7 @@ pub fn rank_of(w: u64) -> u64
     if w == 0 { 0 } else { number_of(w) + 1 }
 }
 
-// Head h is in the session.
+// Head h is in the session. A head is a plain number: going over sixteen words gives it below 16, and a type of its own would be made at every call.
 #[tactic(auto, unfolding(crate::specs::Heads::has))]
 pub fn has_head(w: u64, h: usize) -> bool
     requires { h < 16 }

@@ -1,4 +1,4 @@
-// The calls, by value on the session: refusals first, then the stores or the line, then the next session. A record that is not of 52 words is refused as one
+// The calls, by value on the session, which each hands back, so a refusal is returned with it and not by `?`: refusals first, then the stores or the line, then the next session. A record that is not of 52 words is refused as one
 // that is not whole.
 ghost use Rattle.std.specs.Prelude.{◌≡◌, ◌<◌};
 ghost use Rattle.group.specs.Answers.{said, cut};

@@ -44,7 +44,7 @@ pub fn push(line: Kept, sent: [Kept; 4]) -> [Kept; 4]
     [line, newest, second, third]
 }
 
-// How many characters a call wrote.
+// How many characters a call wrote. `codes::length_of` says it for C, in a crate that this one does not stand on.
 pub fn chars_of(answer: Result<Answer, Refusal>) -> usize
     ensures { result ≡ chars (said answer) }
 {
@@ -62,7 +62,7 @@ pub fn is_line(len: usize) -> bool
     (1..=ROOM).contains(&len)
 }
 
-// The line that a delivery names; of no characters where there is none.
+// The line that a delivery names; of no characters where there is none, as `kept_at` of the definitions has it.
 #[tactic(auto, unfolding(crate::specs::Keeping::kept_at))]
 pub fn kept_at(sent: &[Kept; 4], which: u8) -> Kept
     ensures { result ≡ kept_at sent.now which }

@@ -53,7 +53,7 @@ fn mark_place(desk: &mut Desk, m: u16, offers: &[u64; Group::HEADS], i: usize)
     }
 }
 
-// Marks every place.
+// Marks every place. By number: a turn stores in the record that a slice of places would lend.
 pub fn mark_places(desk: &mut Desk, m: u16, offers: &[u64; Group::HEADS])
     ensures lent { desk.new.rec.ghost_name ≡ desk.old.rec.ghost_name }
     ensures stores { (held : Held) → offers.now ≡ table 16 (offered m held desk.old.rec.now) → on desk.new ≡ exec (up_to 16 (mark_step m held)) (on desk.old) }

@@ -86,6 +86,8 @@ pub fn own(rec: &Record) -> usize
     (rec[0] / 16777216 % Group::HEADS as u64) as usize
 }
 
+// Readers have a name each: contracts and laws cite the field that each reads.
+
 // The highest view entered.
 pub fn entered(rec: &Record) -> u64
     ensures { result ≡ entered rec.now }

@@ -47,7 +47,7 @@ fn wipe_one(to: &mut Record, i: usize)
     }
 }
 
-// The record after the steps.
+// The record after the steps. By number: a turn writes the record that a slice would lend, and one walk with the step handed in is longer than these three.
 pub fn mended(rec: &Record) -> Record
     ensures { result ≡ mended rec.now }
 {

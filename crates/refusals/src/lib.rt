@@ -26,7 +26,7 @@ pub fn enter_check(fit: bool, own: u8, entered: u64, view: u32, heads: u16) -> R
     Ok(())
 }
 
-// The session fits the record, and is not none.
+// The session fits the record, and is not none. The two are asked as they are in the definitions, and a struct of them would be made for one call each.
 fn session_check(fit: bool, stage: u8) -> Result<(), Refusal>
     ensures { check_number result ≡ cond (not fit) 2 (cond (eqb stage 0) 6 0) }
 {

@@ -72,7 +72,7 @@ fn to_clear(rec: &Record, m: u16, held: &Held, i: usize) -> bool
     w != 0 && (all_marked(rec, i) || denied(rec, m, held, w))
 }
 
-// Clears what c clears.
+// Clears what c clears. By number: a turn stores in the record that a slice of places would lend.
 pub fn clear_places(desk: &mut Desk, m: u16, held: &Held)
     ensures { Leaves (exec (up_to 16 (clear_step m held.now)) (on desk.old)) desk.old desk.new }
 {

@@ -85,7 +85,7 @@ fn place_ok(own: usize, p: u64, before: u64, w: u64) -> bool
     (number_of(before) < number_of(w)) & (rank_of(p) < rank_of(w)) & has_head(w, own)
 }
 
-// Each place, after the one before it.
+// Each place, after the one before it: a chain would hand a pair from turn to turn.
 fn all_place_ok(own: usize, p: u64, places: &[u64]) -> bool
     requires { own < 16 }
     ensures { result ≡ all_below (length places.now) (λ i. place_ok own p (prior places.now i) (get_or places.now i 0)) }

@@ -50,7 +50,7 @@ fn session_bytes(w: u64) -> [u8; 6]
     [a, b, c, d, e, f]
 }
 
-// Eight sessions in one block, so that its characters are made many at once.
+// Eight sessions in one block, so that its characters are made many at once. By place: with `map` the check did not find what the block is.
 fn block_bytes(words: &[u64; 8]) -> [[u8; 6]; 8]
     ensures { result ≡ table 8 (λ k. bytes6 (get_or words.now k 0)) }
 {
