@@ -153,8 +153,9 @@ impl Session {
         }
     }
 
-    // Writes the state line, or says why not.
+    // Writes the state line, or says why not. Not inlined: where the values told stand beside the session, the compiler copies the session slot by slot.
     #[tactic(auto, using(crate::proofs::Laws::Calls::some_number, crate::proofs::Laws::Fits::usable_length), unfolding(crate::specs::Calls::write_state_spec, crate::specs::Refusals::write_state_refusal, crate::specs::Calls::writes))]
+    #[inline(never)]
     fn state_written(&self, rec: &[u64], out: &mut [u8]) -> Result<Answer, Refusal>
         ensures { wrote out.new record { answer = result; session = self.now } ≡ write_state_spec self.now rec.now out.old }
     {

@@ -9,14 +9,13 @@ ghost use Rattle.state.specs.Values.{no_state, nothing_held};
 use group::Group;
 pub use rules::{Rule, broken, keeps_rules};
 
-// The values of a record that its head sends. A session is its word, 0 for none; only the first `count` places count, the others are 0 when read.
+// The values of a record that its head sends. A session is its word, 0 for none; only the first `count` places count, the others are 0 when read. The count stands beside the places, as in the interface of C.
 #[repr(C)]
 #[derive(Clone, Copy)]
 pub struct State {
     pub number: u32,
     pub primary: u64,
     pub formed: [u64; Group::HEADS],
-    // How many of the places count stands beside them, as in the interface of C.
     pub count: usize,
     pub places: [u64; Group::PLACES],
 }
