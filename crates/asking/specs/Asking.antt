@@ -69,6 +69,10 @@ event_in l = cond (ltb (line_end l) (length l)) (event_of (line_of l)) None
 abbrev pub left : List ℕ → World → List ℕ
 left s w = take (w.stop - w.at) (drop w.at s)
 
+-- a head that the group line has yet to start
+abbrev pub start_order : World → Order
+start_order w = record { to = 16 - w.starting; from = 16 - w.starting; next = w.at; what = what.Start w.core w.least }
+
 abbrev pub order_for : Option Event → Bool → List ℕ → ℕ → Order
 order_for e grouped views next = record { to = to_of e; from = from_of e; next = next; what = what_of e grouped views }
 
@@ -80,4 +84,5 @@ abbrev pub next_now : List ℕ → World → ℕ
 next_now s w = w.at + line_end (left s w) + 1
 
 abbrev pub order_of : List ℕ → List ℕ → World → Order
-order_of views s w = order_for (event_in (line_now s w)) w.grouped views (next_now s w)
+order_of views s w =
+    cond (ltb 0 w.starting) (start_order w) (order_for (event_in (line_now s w)) w.grouped views (next_now s w))

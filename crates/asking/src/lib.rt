@@ -4,15 +4,16 @@
 ghost use Rattle.std.specs.Prelude.{◌≡◌, ◌≤◌, ◌<◌, length, take};
 ghost use Rattle.lines.specs.Walk.{first_of};
 ghost use Rattle.views.specs.Views.{listed};
-ghost use Rattle.asking.specs.Asking.{to_of, from_of, in_group, group_what, what_of, event_in, order_for, order_of};
+ghost use Rattle.asking.specs.Asking.{to_of, from_of, in_group, group_what, what_of, event_in, start_order, order_for, order_of};
 
 use deeds::What;
 use events::{Event, read_event};
+use group::Group;
 use hexadecimal::line_end;
 use views::{enter_what, list_view, view_what};
 
 // Where the bench stands. The lent lists have more room than is used, since memory is fixed: views and formed are the counts. at is where the next line begins, stop the end of the last
-// whole line of the part that was read, put the end of what is printed of that part.
+// whole line of the part that was read, put the end of what is printed of that part. starting is how many heads the group line has yet to start.
 #[derive(Clone, Copy)]
 pub struct World {
     pub at: usize,
@@ -20,8 +21,11 @@ pub struct World {
     pub put: usize,
     pub views: usize,
     pub formed: usize,
-    // Whether a group line was taken.
+    pub starting: usize,
+    // Whether a group line was taken, and the core group and the minimum that it gave.
     pub grouped: bool,
+    pub core: u16,
+    pub least: u8,
     // How many bytes were read, and how many reads are left.
     pub end: usize,
     pub turns: u64,
@@ -91,6 +95,23 @@ fn heads_of(e: Option<Event>) -> (usize, usize)
     }
 }
 
+// A head that the group line has yet to start.
+fn start_order(w: World) -> Order
+    requires { (0 < w.starting) × (w.starting ≤ 16) }
+    ensures { result ≡ start_order w }
+{
+    let p = Group::HEADS - w.starting;
+    Order {
+        to: p,
+        from: p,
+        next: w.at,
+        what: What::Start {
+            core: w.core,
+            least: w.least,
+        },
+    }
+}
+
 // The event of the first line, if the line ends.
 fn event_in(s: &[u8]) -> Option<Event>
     ensures { result ≡ event_in (first_of s.now) }
@@ -117,11 +138,14 @@ fn order_for(e: Option<Event>, grouped: bool, views: &[u64], next: usize) -> Ord
     }
 }
 
-// What the next line has the table do.
+// What this turn has the table do: a head that the group line has yet to start, or what the next line asks.
 pub fn asked(views: &mut [u64], s: &[u8], w: World) -> Order
-    requires { (w.views ≤ length views.old) × (w.at < w.stop) × (w.stop ≤ length s.now) }
+    requires { (w.views ≤ length views.old) × (w.starting ≤ 16) × (w.at < w.stop) × (w.stop ≤ length s.now) }
     ensures { (result ≡ order_of (take w.views views.old) s.now w) × (views.new ≡ listed w.views result.what views.old) }
 {
+    if 0 < w.starting {
+        return start_order(w);
+    }
     let rest = &s[w.at..w.stop];
     let next = w.at + line_end(rest) + 1;
     let order = order_for(event_in(rest), w.grouped, &views[..w.views], next);

@@ -3,13 +3,14 @@
 
 use group::{Answer, Refusal};
 
-// What a head is to do. The first three are for the bench alone, and leave the head as it is: after Open the bench starts all heads.
+// What a head is to do. The first three are for the bench alone, and leave the head as it is: after Open the bench has each head do Start.
 #[derive(Clone, Copy)]
 pub enum What {
     // Any number: `seat::played` promises its answer for each, so an enum of the bench's two would promise less.
     Refuse { number: u8 },
     Announce { number: u32, heads: u16 },
     Open { core: u16, least: u8 },
+    Start { core: u16, least: u8 },
     Enter { view: u32, heads: u16 },
     HearState { which: u8 },
     HearAttempt { which: u8 },

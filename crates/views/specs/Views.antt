@@ -32,6 +32,7 @@ abbrev pub listed : ℕ → What → List ℕ → List ℕ
 listed n (what.Refuse k) views = views
 listed n (what.Announce v m) views = cond (ltb n (length views)) (set views n (session v m)) views
 listed n (what.Open core least) views = views
+listed n (what.Start core least) views = views
 listed n (what.Enter view m) views = views
 listed n (what.HearState which) views = views
 listed n (what.HearAttempt which) views = views

@@ -8,9 +8,9 @@ use Rattle.asking.proofs.asked.Goals as goal
 pub overflow_add-next : goal.overflow_add-next
 overflow_add-next c =
     let a = c.args in
-    omega (arith, c.line_end.ensures, line-end-le (left a.s.now a.w), length-left a.s.now a.w c.requires.2)
+    omega (arith, c.line_end.ensures, line-end-le (left a.s.now a.w), length-left a.s.now a.w c.requires.3)
 
 pub overflow_add-next-2 : goal.overflow_add-next-2
 overflow_add-next-2 c =
     let a = c.args in
-    omega (arith, c.line_end.ensures, line-end-le (left a.s.now a.w), length-left a.s.now a.w c.requires.2)
+    omega (arith, c.line_end.ensures, line-end-le (left a.s.now a.w), length-left a.s.now a.w c.requires.3)
