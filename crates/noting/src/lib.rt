@@ -1,13 +1,14 @@
 // What the bench keeps and prints of a turn, and at the end of the input.
 #![tactic(auto)]
 
-ghost use Rattle.std.specs.Prelude.{◌≡◌, ◌++◌, ◌+◌, ◌*◌, ◌≤◌, length, take};
+ghost use Rattle.std.specs.Prelude.{◌≡◌, ◌++◌, ◌+◌, ◌*◌, ◌≤◌, ◌<◌, length, take};
 ghost use Rattle.printing.specs.Texts.{closing, last_text};
-ghost use Rattle.noting.specs.Noting.{kept_by, onward, Noted};
+ghost use Rattle.noting.specs.Noting.{kept_by, one_started, onward, Noted};
 
 use asking::{Order, World};
 use deeds::{Deed, What};
 use formed::note;
+use group::Group;
 use printing::{put_last, put_reply, put_sessions};
 use text::Printer;
 
@@ -21,8 +22,25 @@ fn kept_by(what: What, w: World) -> World
             views: w.views + 1,
             ..w
         },
-        What::Open { .. } => World { grouped: true, ..w },
+        What::Open { core, least } => World {
+            starting: Group::HEADS,
+            grouped: true,
+            core,
+            least,
+            ..w
+        },
         _ => w,
+    }
+}
+
+// One head less to start.
+fn one_started(w: World) -> World
+    requires { 0 < w.starting }
+    ensures { result ≡ one_started w }
+{
+    World {
+        starting: w.starting - 1,
+        ..w
     }
 }
 
@@ -34,6 +52,7 @@ fn onward(w: World, next: usize, put: usize, formed: usize) -> World
         at: next,
         put,
         formed,
+        starting: 0,
         ..w
     }
 }
@@ -43,6 +62,9 @@ pub fn told(formed: &mut [u64], out: &mut [u8], w: World, o: Order, d: Deed) -> 
     requires { (length formed.old ≡ 1001) × (w.formed ≤ 1001) × (w.views ≤ 1000) × (w.put + 24 ≤ length out.old) }
     ensures { Noted w o d formed.old out.old formed.new out.new result }
 {
+    if 0 < w.starting {
+        return one_started(w);
+    }
     let mut printer = Printer { out, end: w.put };
     put_reply(&mut printer, d.reply);
     let put = printer.end;
