@@ -130,15 +130,16 @@ arms h k = record {
   formed = 0;
 }
 
--- what head h does on an event in which it hears head g. The group line as such forms the core group's session, (W0, 0).
-abbrev pub played_by : Seat → Seat → What → Played
-played_by h g (what.Refuse n) = does_nothing h (call (refused n)) 0
-played_by h g (what.Announce v m) = does_nothing h announced 0
-played_by h g (what.Open core least) = does_nothing h (call started) core
-played_by h g (what.Enter view m) = enters h view m
-played_by h g (what.HearState which) = hears_state h g which
-played_by h g (what.HearAttempt which) = hears_attempt h g which
-played_by h g what.Decide = decides h
-played_by h g what.Form = forms h
-played_by h g what.Recover = recovers h
-played_by h g (what.Arm k) = arms h k
+-- what head h, of number p, does on an event in which it hears head g. The group line as such forms the core group's session, (W0, 0).
+abbrev pub played_by : ℕ → Seat → Seat → What → Played
+played_by p h g (what.Refuse n) = does_nothing h (call (refused n)) 0
+played_by p h g (what.Announce v m) = does_nothing h announced 0
+played_by p h g (what.Open core least) = does_nothing h (call started) core
+played_by p h g (what.Start core least) = starts h p core least
+played_by p h g (what.Enter view m) = enters h view m
+played_by p h g (what.HearState which) = hears_state h g which
+played_by p h g (what.HearAttempt which) = hears_attempt h g which
+played_by p h g what.Decide = decides h
+played_by p h g what.Form = forms h
+played_by p h g what.Recover = recovers h
+played_by p h g (what.Arm k) = arms h k

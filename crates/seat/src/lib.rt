@@ -220,9 +220,10 @@ fn hears(kind: Line, h: Seat, g: Seat, which: u8) -> Next
     listened(h, next.session, next.answer)
 }
 
-// What head h does on an event in which it hears head g.
-pub fn played(h: Seat, g: Seat, what: What) -> Next
-    ensures { did result ≡ played_by h g what }
+// What head h, of number p, does on an event in which it hears head g.
+pub fn played(p: usize, h: Seat, g: Seat, what: What) -> Next
+    requires { p < 16 }
+    ensures { did result ≡ played_by p h g what }
 {
     match what {
         What::Refuse { number } => does_nothing(h, Reply::Refused(number), 0),
@@ -232,6 +233,7 @@ pub fn played(h: Seat, g: Seat, what: What) -> Next
             Reply::Head(Ok(Answer::Started)),
             u64::from(core),
         ),
+        What::Start { core, least } => starts(h, p, core, least),
         What::Enter { view, heads } => enters(h, view, heads),
         What::HearState { which } => hears(Line::State, h, g, which),
         What::HearAttempt { which } => hears(Line::Attempt, h, g, which),
