@@ -41,6 +41,7 @@ abbrev pub opens : What → Bool
 opens (what.Refuse n) = false
 opens (what.Announce v m) = false
 opens (what.Open core least) = true
+opens (what.Start core least) = false
 opens (what.Enter view m) = false
 opens (what.HearState which) = false
 opens (what.HearAttempt which) = false
@@ -54,6 +55,7 @@ abbrev pub all_started : What → List Seat → List Seat
 all_started (what.Refuse n) t = t
 all_started (what.Announce v m) t = t
 all_started (what.Open core least) t = start_last core least 16 t
+all_started (what.Start core least) t = t
 all_started (what.Enter view m) t = t
 all_started (what.HearState which) t = t
 all_started (what.HearAttempt which) t = t
@@ -67,6 +69,7 @@ abbrev pub new_views : What → List ℕ
 new_views (what.Refuse n) = []
 new_views (what.Announce v m) = session v m ∷ []
 new_views (what.Open core least) = []
+new_views (what.Start core least) = []
 new_views (what.Enter view m) = []
 new_views (what.HearState which) = []
 new_views (what.HearAttempt which) = []
@@ -77,7 +80,7 @@ new_views (what.Arm k) = []
 
 -- head `to` acts, hearing head `from`, and the bench keeps what it is to keep
 unfoldable pub acts : ℕ → ℕ → What → Bench → Played
-acts to from w b = played_by (seat_at b.table to) (seat_at b.table from) w
+acts to from w b = played_by to (seat_at b.table to) (seat_at b.table from) w
 
 unfoldable pub obeyed : ℕ → ℕ → What → Bench → Bench
 obeyed to from w b = record {
