@@ -8,7 +8,7 @@ use Rattle.asking.specs.declared.Order.{Order}
 use Rattle.worlds.specs.Bench.{seat_at}
 
 abbrev pub played_as : List Seat → Order → Played
-played_as t o = played_by (seat_at t o.to) (seat_at t o.from) o.what
+played_as t o = played_by o.to (seat_at t o.to) (seat_at t o.from) o.what
 
 -- the table after it, and the deed
 pub record Acted (t t' : List Seat) (o : Order) (d : Deed) : Type 0 where

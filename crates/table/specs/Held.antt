@@ -13,6 +13,7 @@ stands_for out d = bench_of d.table d.views d.formed out d.world
 pub record Holds (s out : List ℕ) (d : Desk) : Type 0 where
   pub views-in : d.world.views ≤ 1000
   pub formed-in : d.world.formed ≤ 1001
+  pub starting : d.world.starting ≤ 16
   pub within : d.world.stop ≤ length s
   pub ends : begun [] (left s d.world) ≡ []
   pub room : d.world.put + 24 * (d.world.stop - d.world.at) ≤ length out

@@ -3,16 +3,15 @@
 
 ghost use Rattle.std.specs.Prelude.{◌≡◌, ◌<◌, length, replicate};
 ghost use Rattle.seat.specs.Seat.{empty_seat};
-ghost use Rattle.worlds.specs.Bench.{start_last, all_started};
 ghost use Rattle.worlds.specs.Desk.{Turned, Fed};
 ghost use Rattle.table.specs.Acts.{Acted};
 ghost use Rattle.table.specs.Held.{Holds, stands_for};
 
 use asking::{Order, World, asked};
-use deeds::{Deed, What};
+use deeds::Deed;
 use group::Group;
 use noting::told;
-use seat::{Seat, empty_seat, played, starts};
+use seat::{Seat, empty_seat, played};
 
 // The most views and formed sessions.
 pub const VIEWS: usize = 1000;
@@ -28,30 +27,12 @@ pub fn new_table() -> [Seat; Group::HEADS]
 
 // One head acts, hearing another, and its place in the table is stored.
 pub fn act(table: &mut [Seat], o: Order) -> Deed
-    requires { (o.to < length table.old) × (o.from < length table.old) }
+    requires { (o.to < 16) × (o.to < length table.old) × (o.from < length table.old) }
     ensures { Acted table.old table.new o result }
 {
-    let n = played(table[o.to], table[o.from], o.what);
+    let n = played(o.to, table[o.to], table[o.from], o.what);
     table[o.to] = n.seat;
     n.deed
-}
-
-// A group line starts all sixteen heads, one after the other.
-fn start_all(table: &mut [Seat; Group::HEADS], core: u16, least: u8)
-    ensures { table.new ≡ start_last core least 16 table.old }
-{
-    for (p, seat) in table.iter_mut().enumerate() {
-        *seat = starts(*seat, p, core, least).seat;
-    }
-}
-
-// What a group line does to the table besides; of other events nothing.
-fn open(table: &mut [Seat; Group::HEADS], what: What)
-    ensures { table.new ≡ all_started what table.old }
-{
-    if let What::Open { core, least } = what {
-        start_all(table, core, least);
-    }
 }
 
 // What the bench holds from read to read. Memory is fixed: each list has room for the most, and the world has its count.
@@ -64,14 +45,13 @@ pub struct Desk {
 }
 
 impl Desk {
-    // One turn of the bench: what the next line asks, what the head does, what is kept and printed of it. The output is of any length that has room.
+    // One turn of the bench: a head that the group line has yet to start, or what the next line asks; what the head does, what is kept and printed of it. The output is of any length that has room.
     pub fn turn(&mut self, s: &[u8], out: &mut [u8])
         requires { (self.old.world.at < self.old.world.stop) × Holds s.now out.old self.old }
         ensures { Holds s.now out.new self.new × Turned s.now self.old.world (stands_for out.old self.old) (stands_for out.new self.new) self.new.world }
     {
         let o = asked(&mut self.views, s, self.world);
         let d = act(&mut self.table, o);
-        open(&mut self.table, o.what);
         self.world = told(&mut self.formed, out, self.world, o, d);
     }
 

@@ -1,9 +1,9 @@
 -- Before each turn the counts are within the lists, what the lines left would make of the bench is what all lines make of it at first, and each turn is nearer the end.
-use Rattle.std.proofs.Common.{◌≡◌, [], ◌-◌}
+use Rattle.std.proofs.Common.{◌≡◌, []}
 use Rattle.lines.specs.Walk.{whole_lines}
 use Rattle.asking.specs.Asking.{left}
 use Rattle.worlds.specs.Bench.{played}
-use Rattle.worlds.specs.Desk.{SamePart}
+use Rattle.worlds.specs.Desk.{SamePart, to_go}
 use Rattle.table.specs.Held.{Holds, stands_for}
 use Rattle.table.proofs.Desk.feed.Given as goal
 
@@ -15,4 +15,4 @@ invariant-loop-self l = record {
 }
 
 abbrev pub decreases-loop-self : goal.decreases-loop-self
-decreases-loop-self l = l.self.world.stop - l.self.world.at
+decreases-loop-self l = to_go l.self.world

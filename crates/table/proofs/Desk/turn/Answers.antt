@@ -3,7 +3,6 @@ use Rattle.std.proofs.Common.{◌≡◌, ◌∙◌, ap, subst, arith, rules, len
 use Rattle.asking.specs.declared.Order.{Order}
 use Rattle.views.specs.Views.{listed}
 use Rattle.noting.specs.Noting.{Noted}
-use Rattle.worlds.specs.Bench.{all_started}
 use Rattle.worlds.specs.Desk.{Ready}
 use Rattle.worlds.proofs.Laws.Turn.{turned, order-heads}
 use Rattle.table.specs.Acts.{Acted}
@@ -13,8 +12,8 @@ pub act-d-requires : goal.act-d-requires
 act-d-requires c =
     let d = c.args.self.now in
     let heads : length d.table ≡ 16 = search rules in
-    let h = order-heads c.args.s.now d.table d.views d.formed c.args.out.now d.world in
-    rw c.asked-o.ensures.0 (omega (arith, h.0, heads), omega (arith, h.1, heads))
+    let h = order-heads c.args.s.now d.table d.views d.formed c.args.out.now d.world c.requires.1.starting in
+    rw c.asked-o.ensures.0 (h.0, omega (arith, h.0, heads), omega (arith, h.1, heads))
 
 pub returns : goal.returns
 returns c =
@@ -31,6 +30,7 @@ returns c =
       views-in = h.views-in;
       formed-room = formed-room;
       formed-in = h.formed-in;
+      starting = h.starting;
       within = h.within;
       ends = h.ends;
       room = h.room;
@@ -39,7 +39,7 @@ returns c =
     let acted = subst (λ (o : Order). Acted d.table c.act-d.new.table o c.act-d.result) e.0 c.act-d.ensures in
     let noted = subst (λ (o : Order). Noted d.world o c.act-d.result d.formed out c.told-self.new.formed c.told-self.new.out c.told-self.result) e.0 c.told-self.ensures in
     let t = turned s d.table d.views d.formed out d.world ready c.requires.0 (record {
-      table = c.open.ensures ∙ ap (λ (o : Order). all_started o.what c.act-d.new.table) e.0 ∙ ap (all_started _) acted.table;
+      table = acted.table;
       reply = acted.reply;
       session = acted.session;
       views-is = e.1 ∙ ap (λ (o : Order). listed d.world.views o.what d.views) e.0;
@@ -47,6 +47,6 @@ returns c =
       formed-long = c.told-self.auto.formed;
       out-long = c.told-self.auto.out;
     }) in (
-      record { views-in = t.0.views-in; formed-in = t.0.formed-in; within = t.0.within; ends = t.0.ends; room = t.0.room },
+      record { views-in = t.0.views-in; formed-in = t.0.formed-in; starting = t.0.starting; within = t.0.within; ends = t.0.ends; room = t.0.room },
       t.1,
     )
