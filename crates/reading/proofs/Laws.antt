@@ -124,6 +124,7 @@ room-behind l h = length-take-le (length l - h) (drop h l) (omega (arith, length
 pub record Lines (buf : List ℕ) (w r : World) : Type 0 where
   pub views : r.views ≡ w.views
   pub formed : r.formed ≡ w.formed
+  pub starting : r.starting ≡ w.starting
   pub at : r.at ≡ 0
   pub put : r.put ≡ 0
   pub stop : r.stop ≤ r.end
@@ -144,8 +145,8 @@ after-lines buf w n fits = go (eqb n 0)
     end = held_count w + n
 
     go : (c : Bool) → Lines buf w (cond c (at_read w 0 (held_count w) 0) (at_read w (lines_end (take end buf)) end (w.turns - 1)))
-    go true = record { views = refl; formed = refl; at = refl; put = refl; stop = omega arith; end = omega (arith, held-most w); ends = ends-none buf }
-    go false = record { views = refl; formed = refl; at = refl; put = refl; stop = omega (arith, lines-end-most (take end buf), length-take-most end buf); end = fits; ends = lines-end-ends buf end }
+    go true = record { views = refl; formed = refl; starting = refl; at = refl; put = refl; stop = omega arith; end = omega (arith, held-most w); ends = ends-none buf }
+    go false = record { views = refl; formed = refl; starting = refl; at = refl; put = refl; stop = omega (arith, lines-end-most (take end buf), length-take-most end buf); end = fits; ends = lines-end-ends buf end }
 
 pub filled-lines : (old buf : List ℕ) (w r : World) → Filled old buf w r → Lines buf w r
 filled-lines old buf w r f = subst (λ (x : World). Lines buf w x) (sym f.is) (after-lines buf w (brought w f.answer) (brought-most w f.answer))
@@ -154,13 +155,14 @@ filled-lines old buf w r f = subst (λ (x : World). Lines buf w x) (sym f.is) (a
 pub record Kept (w r : World) : Type 0 where
   pub views : r.views ≡ w.views
   pub formed : r.formed ≡ w.formed
+  pub starting : r.starting ≡ w.starting
   pub stop : r.stop ≡ w.stop
   pub end : r.end ≡ w.end
   pub fewer : r.turns ≤ w.turns
 
 after_kept : (w : World) (all : Bool) → Kept w (after_write w all)
-after_kept w true = record { views = refl; formed = refl; stop = refl; end = refl; fewer = omega arith }
-after_kept w false = record { views = refl; formed = refl; stop = refl; end = refl; fewer = omega arith }
+after_kept w true = record { views = refl; formed = refl; starting = refl; stop = refl; end = refl; fewer = omega arith }
+after_kept w false = record { views = refl; formed = refl; starting = refl; stop = refl; end = refl; fewer = omega arith }
 
 pub later-kept : (w r : World) → Later w r → Kept w r
 later-kept w r l = subst (λ (x : World). Kept w x) (sym l.is) (after_kept w l.answer)

@@ -5,11 +5,11 @@ use Rattle.asking.specs.declared.World.{World}
 
 -- nothing is read yet
 abbrev pub first_world : World
-first_world = record { at = 0; stop = 0; put = 0; views = 0; formed = 0; grouped = false; end = 0; turns = 18446744073709551615 }
+first_world = record { at = 0; stop = 0; put = 0; views = 0; formed = 0; starting = 0; grouped = false; core = 0; least = 0; end = 0; turns = 18446744073709551615 }
 
 -- after a read: end bytes lie in the buffer, and the lines up to stop end
 abbrev pub at_read : World → ℕ → ℕ → ℕ → World
-at_read w stop end turns = record { at = 0; stop = stop; put = 0; views = w.views; formed = w.formed; grouped = w.grouped; end = end; turns = turns }
+at_read w stop end turns = record { at = 0; stop = stop; put = 0; views = w.views; formed = w.formed; starting = w.starting; grouped = w.grouped; core = w.core; least = w.least; end = end; turns = turns }
 
 -- what was read lies in the buffer
 pub record Between (buf : List ℕ) (w : World) : Type 0 where
@@ -50,7 +50,7 @@ pub record Filled (old buf : List ℕ) (w r : World) : Type 0 where
 
 -- after a write: the same, or no read is left to make where not all was written
 abbrev pub after_write : World → Bool → World
-after_write w all = cond all w (record { at = w.at; stop = w.stop; put = w.put; views = w.views; formed = w.formed; grouped = w.grouped; end = w.end; turns = 0 })
+after_write w all = cond all w (record { at = w.at; stop = w.stop; put = w.put; views = w.views; formed = w.formed; starting = w.starting; grouped = w.grouped; core = w.core; least = w.least; end = w.end; turns = 0 })
 
 -- a write: the world is the one that belongs to the write's answer
 pub record Later (w r : World) : Type 0 where

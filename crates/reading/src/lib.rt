@@ -18,7 +18,10 @@ pub fn first_world() -> World
         put: 0,
         views: 0,
         formed: 0,
+        starting: 0,
         grouped: false,
+        core: 0,
+        least: 0,
         end: 0,
         turns: u64::MAX,
     }
