@@ -17,6 +17,7 @@ use Rattle.table.specs.Held.{Holds}
 pub record Calm (z : World) : Type 0 where
   pub views-in : z.views ≤ 1000
   pub formed-in : z.formed ≤ 1001
+  pub starting : z.starting ≤ 16
   pub stop : z.stop ≤ z.end
   pub end : z.end ≤ 8192
 
@@ -30,6 +31,7 @@ holds-now bs bs' out z d c l m f =
     record {
       views-in = omega (arith, c.views-in, h.views);
       formed-in = omega (arith, c.formed-in, h.formed);
+      starting = omega (arith, c.starting, h.starting);
       within = omega (arith, h.stop, h.end, l);
       ends = ap (begun []) (left-all bs' d.world h.at) ∙ h.ends;
       room = omega (arith, h.put, h.at, h.stop, h.end, m);
@@ -43,6 +45,7 @@ calm-after bs bs₀ bs₁ out z r d x f p q l =
     record {
       views-in = omega (arith, q.views-in, k.views);
       formed-in = omega (arith, q.formed-in, k.formed);
+      starting = omega (arith, q.starting, k.starting);
       stop = omega (arith, k.stop, k.end, p.stop, p.end, h.stop);
       end = omega (arith, k.end, p.end, h.end);
     }

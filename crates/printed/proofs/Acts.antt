@@ -63,6 +63,7 @@ abbrev pub Allowed : Setting → What → Type 0
 Allowed S (what.Refuse n) = Unit {0}
 Allowed S (what.Announce v m) = Unit {0}
 Allowed S (what.Open core least) = ⊥
+Allowed S (what.Start core least) = ⊥
 Allowed S (what.Enter v m) = (v < 4294967296) × (m ≡ S.members v)
 Allowed S (what.HearState which) = Unit {0}
 Allowed S (what.HearAttempt which) = Unit {0}
@@ -259,10 +260,11 @@ module _ (S : Setting) (room : (W : World) → History S W → length (in_order 
 
   -- ---- all of them
 
-  pub acts-follow : (w : What) → Allowed S w → Follows S (set t p (played_by h g w).seat) (noted (played_by h g w).formed L) (after S (events_by p h g w) W)
+  pub acts-follow : (w : What) → Allowed S w → Follows S (set t p (played_by p h g w).seat) (noted (played_by p h g w).formed L) (after S (events_by p h g w) W)
   acts-follow (what.Refuse n) a = does-nothing (says (refused n))
   acts-follow (what.Announce v m) a = does-nothing announced
   acts-follow (what.Open core least) a = absurd a
+  acts-follow (what.Start core least) a = absurd a
   acts-follow (what.Enter v m) (l, e) = subst (λ (x : ℕ). Next (enters h v x) (events_by p h g (what.Enter v x))) (sym e) (does-enter v l)
   acts-follow (what.HearState which) a = does-hear-state which
   acts-follow (what.HearAttempt which) a = does-hear-attempt which
@@ -275,10 +277,11 @@ module _ (S : Setting) (room : (W : World) → History S W → length (in_order 
   heard-none true x y e f = e
   heard-none false x y e f = f
 
-  pub acts-room : (w : What) → Allowed S w → Roomy (played_by h g w).formed L
+  pub acts-room : (w : What) → Allowed S w → Roomy (played_by p h g w).formed L
   acts-room (what.Refuse n) a = inl refl
   acts-room (what.Announce v m) a = inl refl
   acts-room (what.Open core least) a = absurd a
+  acts-room (what.Start core least) a = absurd a
   acts-room (what.Enter v m) a = inl refl
   acts-room (what.HearState which) a =
       let o = hear_state_spec h.session h.words (line_of (kept_at g.sent which)) in

@@ -64,6 +64,7 @@ none-started : (S : Setting) (w : What) → Allowed S w → (t : List Seat) → 
 none-started S (what.Refuse n) a t = refl
 none-started S (what.Announce v m) a t = refl
 none-started S (what.Open core least) a t = absurd a
+none-started S (what.Start core least) a t = absurd a
 none-started S (what.Enter v m) a t = refl
 none-started S (what.HearState which) a t = refl
 none-started S (what.HearAttempt which) a t = refl

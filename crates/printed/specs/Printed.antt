@@ -66,6 +66,7 @@ abbrev pub events_by : ℕ → Seat → Seat → What → List Event
 events_by p h g (what.Refuse n) = []
 events_by p h g (what.Announce v m) = []
 events_by p h g (what.Open core least) = starting least 16
+events_by p h g (what.Start core least) = []
 events_by p h g (what.Enter view m) = call p false (stores_of h) (enter view) ∷ sends_state p (entry h view m).answer
 events_by p h g (what.HearState which) = hears p hear-state (kept_at g.sent which)
 events_by p h g (what.HearAttempt which) = hears p hear-attempt (kept_at g.sent which)
