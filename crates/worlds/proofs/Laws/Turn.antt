@@ -28,11 +28,11 @@ use Rattle.asking.specs.declared.World.{World}
 use Rattle.asking.specs.declared.Order.{Order}
 use Rattle.asking.specs.Asking.{to_of, from_of, what_of, event_in, left, start_order, order_for, line_now, next_now, order_of}
 use Rattle.asking.proofs.Laws.{announce-room, event-named}
-use Rattle.noting.specs.Noting.{kept_by, onward, one_started, world_after, Noted}
+use Rattle.noting.specs.Noting.{kept_by, onward, one_started, Noted}
 use Rattle.seat.specs.declared.Seat.{Seat}
 use Rattle.seat.specs.Played.{Played, starts, played_by}
 use Rattle.worlds.specs.Bench.{Bench, seat_at, start_last, opens, all_started, new_views, acts, obeyed, happens, taken, played}
-use Rattle.worlds.specs.Desk.{bench_of, Ready, turn_of, to_go, Turned}
+use Rattle.worlds.specs.Desk.{bench_of, Ready, Turned}
 use Rattle.worlds.proofs.Laws.Line.{has-line, played-first, ends_next}
 
 -- ---- what the bench itself keeps, field by field
