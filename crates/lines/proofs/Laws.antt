@@ -10,3 +10,4 @@ pub mod Walk
 pub mod Alike
 pub mod Parts
 pub mod Theorems
+pub mod Answers

@@ -1,5 +1,5 @@
 // Numbers and sessions at a byte place of a frame, high byte first.
-ghost use Rattle.std.specs.Prelude.{◌≡◌, ◌+◌, ◌*◌, ◌≤◌, length, drop};
+ghost use Rattle.std.specs.Prelude.{◌≡◌, ◌+◌, ◌*◌, ◌≤◌, ◌<◌, length, drop};
 ghost use Rattle.state.specs.Values.{padded};
 ghost use Rattle.lines.specs.Frame.{four, six, words};
 
@@ -17,7 +17,8 @@ pub fn four_at(f: &[u8], at: usize) -> u32
 #[tactic(auto, using(lines::proofs::Laws::Frame::six_bytes))]
 pub fn six_at(f: &[u8], at: usize) -> u64
     requires { at + 6 ≤ length f.now }
-    ensures { result ≡ six (drop at f.now) }
+    ensures value { result ≡ six (drop at f.now) }
+    ensures bound { result < 281474976710656 }
 {
     u64::from_be_bytes([
         0,

@@ -1,3 +1,4 @@
 -- The laws, one file a subject.
 pub mod Kept
 pub mod Fewer
+pub mod Numbers

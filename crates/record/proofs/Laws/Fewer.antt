@@ -150,14 +150,14 @@ unused-tests r i f = rw f
 
 -- ---- the whole record
 
-not_first : (r : List ℕ) → (group_whole r && limits_whole r && primary_whole r && top_whole r) ≡ false → whole r ≡ false
+pub not_first : (r : List ℕ) → (group_whole r && limits_whole r && primary_whole r && top_whole r) ≡ false → whole r ≡ false
 unfolding limits_whole top_whole
 not_first r f = fails-if (whole r) (λ e.
     let w = whole_parts r e in
     not-both _ (and_both _ _ (and_both _ _ (and_both _ _ w.group (and_both _ _ (le-leb (entered r) 4294967295 w.view) (le-leb (number r) 4294967295 w.top))) w.last) (le-leb (num (primary r)) (number r) w.highest)) f)
 
 -- the rest of a record whose words 0 to 3 pass
-rest-tests : (r : List ℕ) {a b : Bool} → length r ≡ 52 → (group_whole r && limits_whole r && primary_whole r && top_whole r) ≡ true
+pub rest-tests : (r : List ℕ) {a b : Bool} → length r ≡ 52 → (group_whole r && limits_whole r && primary_whole r && top_whole r) ≡ true
     → a ≡ all_below 16 (formed_whole r) → b ≡ all_below 16 (λ i. place_whole r i && apart_whole r i && marks_whole r i) → (a && b) ≡ whole r
 unfolding apart_whole
 rest-tests r {a} {b} l t ea eb =
