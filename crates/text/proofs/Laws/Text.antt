@@ -31,6 +31,19 @@ count-one k n h = ap length (digits-one k n h)
 count-more : (k n : ℕ) → 10 ≤ n → length (digits (suc k) n) ≡ length (digits k (n / 10)) + 1
 count-more k n h = ap length (digits_more k n h) ∙ rw length-append
 
+count-le : (k n : ℕ) → length (digits k n) ≤ k
+count-le zero n = rw (digits-none n) (omega arith)
+count-le (suc k) n =
+    ⊎_elim
+    (λ h. omega (arith, count-one k n h))
+    (λ h. omega (arith, count-more k n h, count-le k (n / 10)))
+    (lt-or-ge n 10)
+
+-- no number takes more than twenty
+pub decimal-le : (k n : ℕ) → k ≡ length (decimal n) → k ≤ 20
+unfolding decimal
+decimal-le k n e = omega (arith, e, count-le 20 n)
+
 pow-pos : (k : ℕ) → 1 ≤ 10 ^ k
 pow-pos zero = omega arith
 pow-pos (suc k) = omega (arith, pow-succ' 10 k, pow-pos k)
