@@ -44,12 +44,15 @@ impl Group {
         (all != 0) & (self.least != 0) & (u32::from(self.least) <= all)
     }
 
-    // The quorum test of document 01, for any numbers.
-    #[tactic(auto, unfolding(crate::specs::Quorum::quorum_test))]
+    // The quorum test of document 01, for any numbers. It asks whether they are a group by two tests, from which the third follows, each with its own return: by `is_group` it took half as long again.
+    #[tactic(auto, unfolding(crate::specs::Quorum::quorum_test, crate::specs::Quorum::is_group, crate::specs::Heads::empty))]
     pub fn quorum(self, s: u16, t: u16) -> Result<bool, Refusal>
         ensures { verdict result ≡ quorum_test self.core self.least s t }
     {
-        if !self.is_group() {
+        if self.least == 0 {
+            return Err(Refusal::Group);
+        }
+        if size(self.core) < u32::from(self.least) {
             return Err(Refusal::Group);
         }
         Ok(sub_quorum(self.core, self.least, s, t))
