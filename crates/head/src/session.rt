@@ -44,14 +44,18 @@ impl Session {
     }
 
     // None, for a call that is cut. Own slot is stored once more, at an index known only as the program runs: the compiler then keeps the sixteen slots in one
-    // piece, and a call that is not cut copies its session as one, not slot by slot.
+    // piece, and a call that is not cut copies its session as one, not slot by slot. It is stored before the session is made: enter and form took the stack of one session more
+    // where a session was changed.
     pub fn none_of(own: usize) -> Session
         requires { own < 16 }
         ensures { result ≡ no_session }
     {
-        let mut none = Session::none();
-        none.held.of[own] = no_state();
-        none
+        let mut held = nothing_held();
+        held.of[own] = no_state();
+        Session {
+            held,
+            ..Session::none()
+        }
     }
 
     // A session of own head, just entered.

@@ -19,4 +19,4 @@ holding l = record { stage = 0; view = 0; members = 0; states = 0; attempts = 0;
 
 pub returns : goal.returns
 unfolding no_session nothing_held
-returns c = rw (c.none-none.ensures, c.no_state.ensures) (ap holding (set_same 16 c.args.own no_state))
+returns c = rw (c.nothing_held-held.ensures, c.no_state.ensures, c.none.ensures) (ap holding (set_same 16 c.args.own no_state))
