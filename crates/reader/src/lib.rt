@@ -106,6 +106,10 @@ pub fn judge(l: &[u8]) -> Result<Frame, Rule>
     if !digits(l) {
         return Err(Rule::Digits);
     }
+    // Without a whole byte there is no frame to make: a text of such lines took half as long again.
+    if l.len() < 2 {
+        return Err(Rule::Length);
+    }
     if l.len() > MOST {
         return Err(Rule::Length);
     }
