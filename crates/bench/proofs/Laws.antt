@@ -11,7 +11,7 @@ use Rattle.worlds.specs.Desk.{SamePart}
 use Rattle.reading.specs.Reading.{Filled, Later}
 use Rattle.reading.proofs.Laws.{Lines, filled-lines, Kept, later-kept}
 use Rattle.table.specs.declared.Desk.{Desk}
-use Rattle.table.specs.Held.{Holds}
+use Rattle.table.specs.Held.{HoldsStarting}
 
 -- the counts of the world between two reads
 pub record Calm (z : World) : Type 0 where
@@ -25,7 +25,7 @@ pub record Calm (z : World) : Type 0 where
 left-all : (bs : List ℕ) (r : World) → r.at ≡ 0 → left bs r ≡ take r.stop bs
 left-all bs r e = let f : r.stop - 0 ≡ r.stop = omega arith in rw (e, f)
 
-pub holds-now : (bs bs' out : List ℕ) (z : World) (d : Desk) → Calm z → length bs' ≡ 8192 → length out ≡ 196608 → Filled bs bs' z d.world → Holds bs' out d
+pub holds-now : (bs bs' out : List ℕ) (z : World) (d : Desk) → Calm z → length bs' ≡ 8192 → length out ≡ 196608 → Filled bs bs' z d.world → HoldsStarting bs' out d
 holds-now bs bs' out z d c l m f =
     let h : Lines bs' z d.world = filled-lines bs bs' z d.world f in
     record {
@@ -38,7 +38,7 @@ holds-now bs bs' out z d c l m f =
     }
 
 -- after the lines of a read are played and what they print is written
-pub calm-after : (bs bs₀ bs₁ out : List ℕ) (z r : World) (d : Desk) (x : World) → Filled bs₀ bs₁ z r → SamePart r d.world → Holds bs out d → Later d.world x → Calm x
+pub calm-after : (bs bs₀ bs₁ out : List ℕ) (z r : World) (d : Desk) (x : World) → Filled bs₀ bs₁ z r → SamePart r d.world → HoldsStarting bs out d → Later d.world x → Calm x
 calm-after bs bs₀ bs₁ out z r d x f p q l =
     let h : Lines bs₁ z r = filled-lines bs₀ bs₁ z r f in
     let k : Kept d.world x = later-kept d.world x l in

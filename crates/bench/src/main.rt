@@ -32,7 +32,7 @@ fn run<R: Read, W: Write>(reader: &mut R, writer: &mut W) -> u64
     let mut out = [0; 196608];
     while 0 < desk.world.turns {
         desk.world = filled(reader, &mut buf, desk.world);
-        desk.feed(&buf, &mut out);
+        desk.steps(&buf, &mut out);
         desk.world = sent(writer, &out, desk.world);
     }
     finished(writer, &desk, &mut out)

@@ -3,8 +3,8 @@ use Rattle.std.proofs.Common.{◌≡◌, length, rules}
 use Rattle.bench.proofs.Laws.{holds-now, calm-after}
 use Rattle.bench.proofs.run.Goals as goal
 
-pub feed-requires : goal.feed-requires
-feed-requires g c =
+pub steps-requires : goal.steps-requires
+steps-requires g c =
     let l = c.loop-desk in
     let long : length c.filled-desk.new.buf ≡ 8192 = search rules in
     let room : length l.out ≡ 196608 = search rules in
@@ -14,4 +14,4 @@ pub loop-desk-preserved : goal.loop-desk-preserved
 loop-desk-preserved g c =
     let l = c.loop-desk in
     let buf = c.filled-desk.new.buf in
-    calm-after buf l.buf buf c.feed.new.out l.desk.world c.filled-desk.result c.feed.new.self c.sent-desk.result c.filled-desk.ensures c.feed.ensures.1.part c.feed.ensures.0 c.sent-desk.ensures
+    calm-after buf l.buf buf c.steps.new.out l.desk.world c.filled-desk.result c.steps.new.self c.sent-desk.result c.filled-desk.ensures c.steps.ensures.1.part c.steps.ensures.0 c.sent-desk.ensures

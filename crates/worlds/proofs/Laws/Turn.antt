@@ -1,10 +1,10 @@
--- One turn of the bench, from what its three calls give: a head that is started leaves the bench that the lists stand for as it was, since that head counted as
+-- One step of the bench, from what its three calls give: a head that is started leaves the bench that the lists stand for as it was, since that head counted as
 -- started; otherwise the next line is taken, field by field.
 use mathlib.Core.Bool.{Bool, true, false, cond, ◌||◌}
 use mathlib.Core.List.{List, [], ◌++◌, append-nil}
 use mathlib.Core.Logic.{⊎_elim}
 use mathlib.Core.Path.{◌≡◌, refl, sym, ap, ap₂, ◌∙◌}
-use Prim.Native.Nat.{ℕ, zero, suc, ◌-◌, ◌≤◌, ◌<◌}
+use Prim.Native.Nat.{ℕ, zero, suc, ◌+◌, ◌-◌, ◌≤◌, ◌<◌}
 use native.Mathlib.Numerals.{add-one}
 use native.Mathlib.Omega.{arith}
 use borrow.Author.Tests.{lt-ltb, le-ltb}
@@ -32,7 +32,7 @@ use Rattle.noting.specs.Noting.{kept_by, onward, one_started, Noted}
 use Rattle.seat.specs.declared.Seat.{Seat}
 use Rattle.seat.specs.Played.{Played, starts, played_by}
 use Rattle.worlds.specs.Bench.{Bench, seat_at, start_last, opens, all_started, new_views, acts, obeyed, happens, taken, played}
-use Rattle.worlds.specs.Desk.{bench_of, Ready, Turned}
+use Rattle.worlds.specs.Desk.{bench_as_started, none_left, Ready, Stepped, Turned}
 use Rattle.worlds.proofs.Laws.Line.{has-line, played-first, ends_next}
 
 -- ---- what the bench itself keeps, field by field
@@ -139,16 +139,29 @@ listed-long n what.Recover views = refl
 listed-long n (what.Arm k) views = refl
 
 -- one head started of the last n
-start-one : (n core least : ℕ) (t : List Seat) → 0 < n
+start-next : (n core least : ℕ) (t : List Seat) → 0 < n
     → start_last core least (n - 1) (set t (16 - n) (starts (seat_at t (16 - n)) (16 - n) core least).seat) ≡ start_last core least n t
 unfolding start_last
-start-one zero core least t pos = absurd (omega arith)
-start-one (suc n) core least t pos =
+start-next zero core least t pos = absurd (omega arith)
+start-next (suc n) core least t pos =
     let e : suc n - 1 ≡ n = omega arith in
     let f : 16 - suc n ≡ 15 - n = omega arith in
     rw (e, f)
 
--- ---- a turn
+-- head p started, and then those after it
+pub start-one : (p core least : ℕ) (t : List Seat) → p < 16
+    → start_last core least (16 - (p + 1)) (set t p (starts (seat_at t p) p core least).seat) ≡ start_last core least (16 - p) t
+unfolding start_last
+start-one p core least t lt =
+    let e : 16 - p ≡ suc (16 - (p + 1)) = omega arith in
+    let f : 15 - (16 - (p + 1)) ≡ p = omega arith in
+    sym (ap (λ (k : ℕ). start_last core least k t) e ∙ ap (λ (k : ℕ). start_last core least (16 - (p + 1)) (set t k (starts (seat_at t k) k core least).seat)) f)
+
+pub start-none : (p core least : ℕ) (t : List Seat) → 16 ≤ p → start_last core least (16 - p) t ≡ t
+unfolding start_last
+start-none p core least t over = let e : 16 - p ≡ 0 = omega arith in rw e
+
+-- ---- a step
 
 module _ (s : List ℕ) (t : List Seat) (views formed out : List ℕ) (w : World) where
   abbrev pub order : Order
@@ -157,7 +170,7 @@ module _ (s : List ℕ) (t : List Seat) (views formed out : List ℕ) (w : World
   abbrev pub played_as : Order → Played
   played_as z = played_by z.to (seat_at t z.to) (seat_at t z.from) z.what
 
-  -- what the three calls of a turn give
+  -- what the three calls of a step give
   pub record Step (t' : List Seat) (views' formed' out' : List ℕ) (d : Deed) (r : World) : Type 0 where
     pub table : t' ≡ set t order.to (played_as order).seat
     pub reply : told d.reply ≡ (played_as order).reply
@@ -192,9 +205,9 @@ module _ (s : List ℕ) (t : List Seat) (views formed out : List ℕ) (w : World
       table_is = st.table ∙ ap (λ (z : Order). set t z.to (played_as z).seat) start-order
 
       heads-are : AsStarted r t' ≡ AsStarted w t
-      heads-are = ap₂ AsStarted world_is table_is ∙ start-one w.starting w.core w.least t pos
+      heads-are = ap₂ AsStarted world_is table_is ∙ start-next w.starting w.core w.least t pos
 
-      bench-same : bench_of t' views' formed' out' r ≡ bench_of t views formed out w
+      bench-same : bench_as_started t' views' formed' out' r ≡ bench_as_started t views formed out w
       bench-same = λ i. record {
         grouped = (world_is i).grouped;
         table = heads-are i;
@@ -230,8 +243,8 @@ module _ (s : List ℕ) (t : List Seat) (views formed out : List ℕ) (w : World
         room = omega (arith, at-is.0, at-is.1, at-is.5, ready.room, st.out-long);
       }
 
-      start-turned : Turned s w (bench_of t views formed out w) (bench_of t' views' formed' out' r) r
-      start-turned = record {
+      start-stepped : Stepped s w (bench_as_started t views formed out w) (bench_as_started t' views' formed' out' r) r
+      start-stepped = record {
         bench = rw yes bench-same;
         rest = ap₂ (λ (x : List ℕ) (b : Bench). played (whole_lines [] x) b) left-same bench-same;
         nearer = omega (arith, at-is.0, at-is.1, at-is.4, pos);
@@ -279,14 +292,14 @@ module _ (s : List ℕ) (t : List Seat) (views formed out : List ℕ) (w : World
       line-text = st.noted-is.text-is ∙ rw no (ap (λ (k : Told). take w.put out ++ told_text k) (st.reply ∙ ap (λ (z : Order). (played_as z).reply) line-order))
 
       -- the bench before it has the heads as they are
-      acts-is : played_by (to_of e) (seat_at t (to_of e)) (seat_at t (from_of e)) a ≡ acts (to_of e) (from_of e) a (bench_of t views formed out w)
+      acts-is : played_by (to_of e) (seat_at t (to_of e)) (seat_at t (from_of e)) a ≡ acts (to_of e) (from_of e) a (bench_as_started t views formed out w)
       unfolding acts
       acts-is = ap (λ (z : List Seat). played_by (to_of e) (seat_at z (to_of e)) (seat_at z (from_of e)) a) (sym as-they-are)
 
       grouped-is : r.grouped ≡ (opens a || w.grouped)
       grouped-is = ap (λ (z : World). z.grouped) line-world ∙ kept-grouped a x
 
-      heads-is : AsStarted r t' ≡ all_started a (set (AsStarted w t) (to_of e) (acts (to_of e) (from_of e) a (bench_of t views formed out w)).seat)
+      heads-is : AsStarted r t' ≡ all_started a (set (AsStarted w t) (to_of e) (acts (to_of e) (from_of e) a (bench_as_started t views formed out w)).seat)
       heads-is =
           ap₂ AsStarted line-world line-table
           ∙ kept_table a w (next_now s w) r.put r.formed _
@@ -297,7 +310,7 @@ module _ (s : List ℕ) (t : List Seat) (views formed out : List ℕ) (w : World
           ap₂ (λ (y : World) (z : List ℕ). take y.views z) line-world line-views
           ∙ kept-views a x views (λ v m p. omega (arith, announces v m p, ready.views-room))
 
-      line-bench : bench_of t' views' formed' out' r ≡ taken (line_now s w) (bench_of t views formed out w)
+      line-bench : bench_as_started t' views' formed' out' r ≡ taken (line_now s w) (bench_as_started t views formed out w)
       unfolding taken happens obeyed
       line-bench = λ i. record {
         grouped = grouped-is i;
@@ -341,25 +354,35 @@ module _ (s : List ℕ) (t : List Seat) (views formed out : List ℕ) (w : World
         room = omega (arith, later, line_at.1, st.noted-is.put_in, ready.room, st.out-long, more);
       }
 
-      line-turned : Turned s w (bench_of t views formed out w) (bench_of t' views' formed' out' r) r
-      line-turned = record {
+      line-stepped : Stepped s w (bench_as_started t views formed out w) (bench_as_started t' views' formed' out' r) r
+      line-stepped = record {
         bench = rw no line-bench;
-        rest = ap (played (whole_lines [] (left s r))) line-bench ∙ played-first s w r (bench_of t views formed out w) has line_at.1 line_at.0;
+        rest = ap (played (whole_lines [] (left s r))) line-bench ∙ played-first s w r (bench_as_started t views formed out w) has line_at.1 line_at.0;
         nearer = omega (arith, later, line_at.1, few, none, more);
         part = record { stop = line_at.1; end = line_at.2; turns = line_at.3 };
       }
 
   -- both together
-  pub turned : {t' : List Seat} {views' formed' out' : List ℕ} {d : Deed} {r : World} → Ready t views formed s out w → w.at < w.stop → Step t' views' formed' out' d r
-      → Ready t' views' formed' s out' r × Turned s w (bench_of t views formed out w) (bench_of t' views' formed' out' r) r
-  turned ready more st =
-      ⊎_elim (λ pos. (start-ready ready pos st, start-turned ready pos st)) (λ none. (line-ready ready more (omega arith) st, line-turned ready more (omega arith) st)) (lt-or-ge 0 w.starting)
+  pub stepped : {t' : List Seat} {views' formed' out' : List ℕ} {d : Deed} {r : World} → Ready t views formed s out w → w.at < w.stop → Step t' views' formed' out' d r
+      → Ready t' views' formed' s out' r × Stepped s w (bench_as_started t views formed out w) (bench_as_started t' views' formed' out' r) r
+  stepped ready more st =
+      ⊎_elim (λ pos. (start-ready ready pos st, start-stepped ready pos st)) (λ none. (line-ready ready more (omega arith) st, line-stepped ready more (omega arith) st)) (lt-or-ge 0 w.starting)
 
   -- which heads act
-  pub order-heads : w.starting ≤ 16 → (order.to < 16) × (order.from < 16)
-  order-heads few =
+  pub order-heads : (order.to < 16) × (order.from < 16)
+  order-heads =
       ⊎_elim (λ pos. let y = lt-ltb 0 w.starting pos in (rw y (omega arith), rw y (omega arith)))
       (λ none. let n = le-ltb 0 w.starting none in (rw n (event-named (line_now s w)).to, rw n (event-named (line_now s w)).from)) (lt-or-ge 0 w.starting)
+
+-- ---- a line with all that it does
+
+pub turned : (s : List ℕ) (w r : World) (b b' : Bench) → Stepped s (none_left w) b b' r → Turned s w b b' (none_left r)
+turned s w r b b' st = record {
+  bench = st.bench;
+  rest = st.rest;
+  nearer = omega (arith, st.nearer);
+  part = record { stop = st.part.stop; end = st.part.end; turns = st.part.turns };
+}
 
 -- ---- a whole part
 

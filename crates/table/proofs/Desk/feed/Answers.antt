@@ -1,25 +1,22 @@
--- A turn keeps what the lines left would make of the bench; at the end no line is left.
-use Rattle.std.proofs.Common.{◌∙◌, refl, sym}
-use Rattle.asking.specs.declared.World.{World}
-use Rattle.worlds.specs.Desk.{SamePart}
-use Rattle.worlds.proofs.Laws.Turn.{over}
+-- The steps take every line; the heads that the last one leaves to start counted as started, and then they are.
+use Rattle.std.proofs.Common.{◌≡◌, refl, sym, subst}
+use Rattle.worlds.specs.Bench.{start_last}
+use Rattle.worlds.specs.Desk.{Fed}
+use Rattle.table.specs.declared.Desk.{Desk}
+use Rattle.table.specs.Held.{Holds, stands_for}
+use Rattle.table.proofs.Laws.{settled-holds}
 use Rattle.table.proofs.Desk.feed.Goals as goal
 
-part-more : (w z r : World) → SamePart w z → SamePart z r → SamePart w r
-part-more w z r a b = record { stop = b.stop ∙ a.stop; end = b.end ∙ a.end; turns = b.turns ∙ a.turns }
-
-pub loop-self-init : goal.loop-self-init
-loop-self-init c = record { holds = c.requires; rest = refl; part = record { stop = refl; end = refl; turns = refl } }
-
-pub loop-self-smaller : goal.loop-self-smaller
-loop-self-smaller c = c.turn.ensures.1.nearer
-
-pub loop-self-preserved : goal.loop-self-preserved
-loop-self-preserved c =
-    let e = c.turn.ensures in
-    record { holds = e.0; rest = e.1.rest ∙ c.loop-self.invariant.rest; part = part-more _ _ _ c.loop-self.invariant.part e.1.part }
-
 pub returns : goal.returns
+unfolding start_last
 returns c =
-    let i = c.loop-self.invariant in
-    (i.holds, record { bench = sym (over c.args.s.now c.loop-self.self.world _ i.holds.within c.loop-self-test.false) ∙ i.rest; done = c.loop-self-test.false; part = i.part })
+    let s = c.args.s.now in
+    let d = c.args.self.now in
+    let out = c.steps.new.out in
+    let e = c.steps.ensures in
+    let f = e.1 in
+    subst (λ (x : Desk). Holds s out x × Fed s d.world (stands_for c.args.out.now d) (stands_for out x) x.world × (x.world.starting ≡ 0)) (sym c.start_left.ensures) (
+      settled-holds s out c.steps.new.self e.0,
+      record { bench = f.bench; done = f.done; part = record { stop = f.part.stop; end = f.part.end; turns = f.part.turns } },
+      refl,
+    )
