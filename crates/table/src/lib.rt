@@ -39,7 +39,7 @@ pub fn act(table: &mut [Seat], o: Order) -> Deed
     n.deed
 }
 
-// The last n heads are started, one after the other, each as the one of its number.
+// The last n heads are started, one after the other. By number, since each is started with its own.
 fn start_last(table: &mut [Seat; Group::HEADS], core: u16, least: u8, n: usize)
     requires { n ≤ 16 }
     ensures { table.new ≡ start_last core least n table.old }
@@ -89,7 +89,7 @@ impl Desk {
         self.world.starting = 0;
     }
 
-    // One turn of the bench: what the next line asks, what the head does, what is kept and printed of it; a group line starts all its heads. Heads that a step left to start are not among them.
+    // One turn of the bench: what the next line asks, what the head does, what is kept and printed of it; after a group line all heads are started. What an earlier step left to start is forgotten.
     pub fn turn(&mut self, s: &[u8], out: &mut [u8])
         requires { (self.old.world.at < self.old.world.stop) × Holds s.now out.old self.old }
         ensures { Holds s.now out.new self.new × Turned s.now self.old.world (stands_for out.old self.old) (stands_for out.new self.new) self.new.world × (self.new.world.starting ≡ 0) }
@@ -99,7 +99,7 @@ impl Desk {
         self.start_left();
     }
 
-    // All whole lines of a part of the input, in order, each with all that it does.
+    // All whole lines of a part of the input, in order, each a turn.
     pub fn feed(&mut self, s: &[u8], out: &mut [u8])
         requires { Holds s.now out.old self.old }
         ensures { Holds s.now out.new self.new × Fed s.now self.old.world (stands_for out.old self.old) (stands_for out.new self.new) self.new.world × (self.new.world.starting ≡ 0) }
