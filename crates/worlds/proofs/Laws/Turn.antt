@@ -32,7 +32,7 @@ use Rattle.noting.specs.Noting.{kept_by, onward, one_started, Noted}
 use Rattle.seat.specs.declared.Seat.{Seat}
 use Rattle.seat.specs.Played.{Played, starts, played_by}
 use Rattle.worlds.specs.Bench.{Bench, seat_at, start_last, opens, all_started, new_views, acts, obeyed, happens, taken, played}
-use Rattle.worlds.specs.Desk.{bench_as_started, none_left, Ready, Stepped, Turned}
+use Rattle.worlds.specs.Desk.{bench_of, bench_as_started, none_left, Ready, Stepped, Turned}
 use Rattle.worlds.proofs.Laws.Line.{has-line, played-first, ends_next}
 
 -- ---- what the bench itself keeps, field by field
@@ -374,15 +374,43 @@ module _ (s : List ℕ) (t : List Seat) (views formed out : List ℕ) (w : World
       ⊎_elim (λ pos. let y = lt-ltb 0 w.starting pos in (rw y (omega arith), rw y (omega arith)))
       (λ none. let n = le-ltb 0 w.starting none in (rw n (event-named (line_now s w)).to, rw n (event-named (line_now s w)).from)) (lt-or-ge 0 w.starting)
 
--- ---- a line with all that it does
+-- ---- a turn: a step from a world with no head left to start, and then the heads started that it leaves
 
-pub turned : (s : List ℕ) (w r : World) (b b' : Bench) → Stepped s (none_left w) b b' r → Turned s w b b' (none_left r)
-turned s w r b b' st = record {
+pub as-turned : (s : List ℕ) (w r : World) (b b' : Bench) → Stepped s (none_left w) b b' r → Turned s w b b' (none_left r)
+as-turned s w r b b' st = record {
   bench = st.bench;
   rest = st.rest;
   nearer = omega (arith, st.nearer);
   part = record { stop = st.part.stop; end = st.part.end; turns = st.part.turns };
 }
+
+last-long : (core least n : ℕ) (t : List Seat) → length (start_last core least n t) ≡ length t
+unfolding start_last
+last-long core least zero t = refl
+last-long core least (suc n) t = last-long core least n _ ∙ length-set t _ _
+
+-- what the calls of the step give is a turn
+pub turned : (s : List ℕ) (t : List Seat) (views formed out : List ℕ) (w : World) {t' : List Seat} {views' formed' out' : List ℕ} {d : Deed} {r : World}
+    → Ready t views formed s out (none_left w) → w.at < w.stop → Step s t views formed out (none_left w) t' views' formed' out' d r
+    → Ready (start_last r.core r.least r.starting t') views' formed' s out' (none_left r)
+    × Turned s w (bench_of t views formed out w) (bench_of (start_last r.core r.least r.starting t') views' formed' out' (none_left r)) (none_left r)
+unfolding start_last
+turned s t views formed out w {t'} {views'} {formed'} {out'} {d} {r} ready more st =
+    let e = stepped s t views formed out (none_left w) ready more st in
+    let k = e.0 in (
+      record {
+        heads = last-long r.core r.least r.starting t' ∙ k.heads;
+        views-room = k.views-room;
+        views-in = k.views-in;
+        formed-room = k.formed-room;
+        formed-in = k.formed-in;
+        starting = omega arith;
+        within = k.within;
+        ends = k.ends;
+        room = k.room;
+      },
+      as-turned s w r _ _ e.1,
+    )
 
 -- ---- a whole part
 
