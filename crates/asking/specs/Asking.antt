@@ -63,7 +63,7 @@ what_of (Some (event.Recover h)) grouped views = in_group grouped what.Recover
 abbrev pub event_in : List ℕ → Option Event
 event_in l = cond (ltb (line_end l) (length l)) (event_of (line_of l)) None
 
--- ---- what a turn asks
+-- ---- what a step asks
 
 -- the part of the input that is left: its lines all end
 abbrev pub left : List ℕ → World → List ℕ

@@ -31,7 +31,7 @@ pub struct World {
     pub turns: u64,
 }
 
-// What one turn has the table do: head `to` acts, hearing head `from`; the next line begins at next.
+// What one step has the table do: head `to` acts, hearing head `from`; the next line begins at next.
 #[derive(Clone, Copy)]
 pub struct Order {
     pub to: usize,
@@ -138,7 +138,7 @@ fn order_for(e: Option<Event>, grouped: bool, views: &[u64], next: usize) -> Ord
     }
 }
 
-// What this turn has the table do: a head that the group line has yet to start, or what the next line asks.
+// What this step has the table do: a head that the group line has yet to start, or what the next line asks.
 pub fn asked(views: &mut [u64], s: &[u8], w: World) -> Order
     requires { (w.views ≤ length views.old) × (w.starting ≤ 16) × (w.at < w.stop) × (w.stop ≤ length s.now) }
     ensures { (result ≡ order_of (take w.views views.old) s.now w) × (views.new ≡ listed w.views result.what views.old) }

@@ -1,4 +1,4 @@
--- What is kept of a turn, put together from its parts; and what is printed at the end.
+-- What is kept of a step, put together from its parts; and what is printed at the end.
 use mathlib.Core.List.{List, ◌++◌}
 use mathlib.Core.Path.{◌≡◌, refl, sym, ap, ◌∙◌, ap₂}
 use Prim.Native.Nat.{ℕ, ◌+◌, ◌≤◌, ◌<◌}

@@ -1,2 +1,2 @@
--- What the bench keeps and prints of a turn (document 02, Item 1).
+-- What the bench keeps and prints of a step (document 02, Item 1).
 pub mod Noting

@@ -1,4 +1,4 @@
--- What the bench keeps and prints of a turn.
+-- What the bench keeps and prints of a step.
 use Rattle.std.specs.Prelude.{true, cond, List, ◌++◌, ◌≡◌, ℕ, ◌+◌, ◌-◌, ◌≤◌, ltb, take}
 use Rattle.deeds.specs.declared.Deed.{Deed}
 use Rattle.deeds.specs.declared.What.{What}
@@ -34,7 +34,7 @@ one_started w = record { at = w.at; stop = w.stop; put = w.put; views = w.views;
 abbrev pub world_after : World → Order → ℕ → ℕ → World
 world_after w o put formed = cond (ltb 0 w.starting) (one_started w) (kept_by o.what (onward w o.next put formed))
 
--- what is kept of the deed d of a turn: the lists before and after it, and the world r after it
+-- what is kept of the deed d of a step: the lists before and after it, and the world r after it
 pub record Noted (w : World) (o : Order) (d : Deed) (formed out formed' out' : List ℕ) (r : World) : Type 0 where
   pub world : r ≡ world_after w o r.put r.formed
   pub formed-is : take r.formed formed' ≡ cond (ltb 0 w.starting) (take w.formed formed) (noted d.formed (take w.formed formed))

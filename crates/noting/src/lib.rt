@@ -1,4 +1,4 @@
-// What the bench keeps and prints of a turn, and at the end of the input.
+// What the bench keeps and prints of a step, and at the end of the input.
 #![tactic(auto)]
 
 ghost use Rattle.std.specs.Prelude.{◌≡◌, ◌++◌, ◌+◌, ◌*◌, ◌≤◌, ◌<◌, length, take};
@@ -57,7 +57,7 @@ fn onward(w: World, next: usize, put: usize, formed: usize) -> World
     }
 }
 
-// Keeps and prints what a turn came to.
+// Keeps and prints what a step came to.
 pub fn told(formed: &mut [u64], out: &mut [u8], w: World, o: Order, d: Deed) -> World
     requires { (length formed.old ≡ 1001) × (w.formed ≤ 1001) × (w.views ≤ 1000) × (w.put + 24 ≤ length out.old) }
     ensures { Noted w o d formed.old out.old formed.new out.new result }

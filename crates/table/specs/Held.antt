@@ -6,6 +6,7 @@ use Rattle.worlds.specs.Bench.{Bench, start_last}
 use Rattle.worlds.specs.Desk.{bench_of, bench_as_started, none_left}
 use Rattle.table.specs.declared.Desk.{Desk}
 
+-- the bench that a desk stands for, with the table as it is
 abbrev pub stands_for : List ℕ → Desk → Bench
 stands_for out d = bench_of d.table d.views d.formed out d.world
 
@@ -30,7 +31,7 @@ pub record Holds (s out : List ℕ) (d : Desk) : Type 0 where
   pub ends : begun [] (left s d.world) ≡ []
   pub room : d.world.put + 24 * (d.world.stop - d.world.at) ≤ length out
 
--- what steps keep to besides (`Ready`): at most all heads are left to start
+-- what steps keep to: the same, with at most sixteen heads left to start; with the lengths of the lists it is `Ready`
 pub record HoldsStarting (s out : List ℕ) (d : Desk) : Type 0 where
   pub views-in : d.world.views ≤ 1000
   pub formed-in : d.world.formed ≤ 1001

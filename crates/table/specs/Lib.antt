@@ -1,3 +1,3 @@
--- What one head's turn does to the table, and what the bench holds.
+-- What one head that acts does to the table, and what the bench holds.
 pub mod Acts
 pub mod Held

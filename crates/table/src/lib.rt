@@ -39,7 +39,7 @@ pub fn act(table: &mut [Seat], o: Order) -> Deed
     n.deed
 }
 
-// The last n heads are started, one after the other. By number, since each is started with its own.
+// The last n heads are started, one after the other. By number: only the last n, and each is started with its own.
 fn start_last(table: &mut [Seat; Group::HEADS], core: u16, least: u8, n: usize)
     requires { n ≤ 16 }
     ensures { table.new ≡ start_last core least n table.old }
@@ -79,7 +79,7 @@ impl Desk {
         }
     }
 
-    // The heads that a group line has yet to start, all of them.
+    // All heads that a group line has yet to start are started.
     fn start_left(&mut self)
         requires { self.old.world.starting ≤ 16 }
         ensures { self.new ≡ settled self.old }
@@ -99,7 +99,7 @@ impl Desk {
         self.start_left();
     }
 
-    // All whole lines of a part of the input, in order, each a turn.
+    // All whole lines of a part of the input, in order, by steps; then the heads are started that the last one leaves. What an earlier step left to start is forgotten.
     pub fn feed(&mut self, s: &[u8], out: &mut [u8])
         requires { Holds s.now out.old self.old }
         ensures { Holds s.now out.new self.new × Fed s.now self.old.world (stands_for out.old self.old) (stands_for out.new self.new) self.new.world × (self.new.world.starting ≡ 0) }

@@ -5,7 +5,7 @@ use crate::{Desk, SESSIONS, VIEWS, new_table};
 use asking::World;
 use record::layout::{core, least, own};
 
-// The desk before any line, with a part of these many bytes to come.
+// The desk before any line, with a part of `stop` bytes to come.
 fn desk_for(stop: usize) -> Desk
     ensures { (result.world.at ≡ 0) × (result.world.stop ≡ stop) × (result.world.put ≡ 0) × (result.world.views ≡ 0) × (result.world.formed ≡ 0) }
 {

@@ -54,7 +54,7 @@ pub record Ready (t : List Seat) (views formed s out : List ℕ) (w : World) : T
 abbrev pub turn_of : List ℕ → World → Bench → Bench
 turn_of s w b = cond (ltb 0 w.starting) b (taken (line_now s w) b)
 
--- how far a world is from its end, for the loop over lines
+-- how far a world is from its end, for the loop over steps
 abbrev pub to_go : World → ℕ
 to_go w = 17 * (w.stop - w.at) + w.starting
 

@@ -1,5 +1,5 @@
 -- One step of the bench, from what its three calls give: a head that is started leaves the bench that the lists stand for as it was, since that head counted as
--- started; otherwise the next line is taken, field by field.
+-- started; otherwise the next line is taken, field by field. Then a turn, from a step.
 use mathlib.Core.Bool.{Bool, true, false, cond, ◌||◌}
 use mathlib.Core.List.{List, [], ◌++◌, append-nil}
 use mathlib.Core.Logic.{⊎_elim}
@@ -376,6 +376,7 @@ module _ (s : List ℕ) (t : List Seat) (views formed out : List ℕ) (w : World
 
 -- ---- a turn: a step from a world with no head left to start, and then the heads started that it leaves
 
+-- it takes a line; the heads that it leaves counted as started
 pub as-turned : (s : List ℕ) (w r : World) (b b' : Bench) → Stepped s (none_left w) b b' r → Turned s w b b' (none_left r)
 as-turned s w r b b' st = record {
   bench = st.bench;
@@ -389,7 +390,7 @@ unfolding start_last
 last-long core least zero t = refl
 last-long core least (suc n) t = last-long core least n _ ∙ length-set t _ _
 
--- what the calls of the step give is a turn
+-- what the calls of such a step give, with the heads started that it leaves, is a turn; what w itself has left to start plays no part
 pub turned : (s : List ℕ) (t : List Seat) (views formed out : List ℕ) (w : World) {t' : List Seat} {views' formed' out' : List ℕ} {d : Deed} {r : World}
     → Ready t views formed s out (none_left w) → w.at < w.stop → Step s t views formed out (none_left w) t' views' formed' out' d r
     → Ready (start_last r.core r.least r.starting t') views' formed' s out' (none_left r)

@@ -1,4 +1,4 @@
--- The steps take every line; the heads that the last one leaves to start counted as started, and then they are.
+-- The steps take every line; the heads that the last one leaves count as started in that bench, and are started before the call returns.
 use Rattle.std.proofs.Common.{◌≡◌, refl, sym, subst}
 use Rattle.worlds.specs.Bench.{start_last}
 use Rattle.worlds.specs.Desk.{Fed}

@@ -1,4 +1,4 @@
--- A step from a desk with no head left to start takes a line; the heads that it leaves to start counted as started, and then they are (`as-turned`).
+-- A step from a desk with no head left to start takes a line; the heads that it leaves count as started in that bench, and are started before the call returns (`as-turned`).
 use Rattle.std.proofs.Common.{◌≡◌, refl, sym, subst}
 use Rattle.worlds.specs.Bench.{start_last}
 use Rattle.worlds.specs.Desk.{Turned}
