@@ -151,11 +151,10 @@ start-next (suc n) core least t pos =
 -- head p started, and then those after it
 pub start-one : (p core least : ℕ) (t : List Seat) → p < 16
     → start_last core least (16 - (p + 1)) (set t p (starts (seat_at t p) p core least).seat) ≡ start_last core least (16 - p) t
-unfolding start_last
 start-one p core least t lt =
-    let e : 16 - p ≡ suc (16 - (p + 1)) = omega arith in
-    let f : 15 - (16 - (p + 1)) ≡ p = omega arith in
-    sym (ap (λ (k : ℕ). start_last core least k t) e ∙ ap (λ (k : ℕ). start_last core least (16 - (p + 1)) (set t k (starts (seat_at t k) k core least).seat)) f)
+    let e : 16 - (p + 1) ≡ 16 - p - 1 = omega arith in
+    let f : p ≡ 16 - (16 - p) = omega arith in
+    ap₂ (λ (n k : ℕ). start_last core least n (set t k (starts (seat_at t k) k core least).seat)) e f ∙ start-next (16 - p) core least t (omega arith)
 
 pub start-none : (p core least : ℕ) (t : List Seat) → 16 ≤ p → start_last core least (16 - p) t ≡ t
 unfolding start_last
